@@ -1,0 +1,166 @@
+-- Document 01, "Walk, select and rule": the walk of a rank. A descent, a turn and a rank come with their events, in the order made.
+use mathlib.Core.Bool.{Bool, true, false, cond, _||_}
+use mathlib.Core.List.{List, [], _∷_, _++_}
+use Prim.Native.Nat.{ℕ, zero, suc, _+_, _-_, _*_, _%_}
+use lib.Dec.{ltb, eqb}
+use Rattle.definitions.specs.declared.Drawn.{Drawn}
+use Rattle.definitions.specs.declared.Drawn.the-variants.{Winner, Nothing}
+use Rattle.definitions.specs.declared.Mode.{Mode}
+use Rattle.definitions.specs.declared.Mode.the-variants.{FirstN, Independent}
+use Rattle.definitions.specs.declared.Verdict.{Verdict}
+use Rattle.definitions.specs.declared.Verdict.the-variants.{Held, Rejected, Passed}
+use Rattle.definitions.specs.declared.Event.{Event}
+use Rattle.definitions.specs.declared.Event.the-variants.{Drew, Tested}
+use Rattle.definitions.specs.declared.Landed.{Landed}
+use Rattle.definitions.specs.declared.State.{State}
+use Rattle.definitions.specs.declared.Turn.{Turn}
+use Rattle.definitions.specs.declared.Turn.the-variants.{Fill, Fail}
+use Rattle.definitions.specs.declared.Ranked.{Ranked}
+use Rattle.definitions.specs.Lists.{has}
+use Rattle.definitions.specs.Hash.{hash2}
+use Rattle.definitions.specs.Straw.{drawOf}
+use Rattle.definitions.specs.Map.{bucketItem, isBucket, bucketNumber}
+use Rattle.definitions.specs.View.{View}
+
+-- "a hole (ffff)": the number of no item
+abbrev pub hole : ℕ
+hole = 65535
+
+-- ---- descent
+
+pub record Descent : Type 0 where
+  pub landed : Landed
+  pub events : List Event
+
+-- the draw of group x at bucket b with try number r
+unfoldable pub drawAt : View → ℕ → ℕ → ℕ → Drawn
+drawAt v x r b = drawOf (v .seed) x r (v .children b) (v .weights b)
+
+-- the descent ends with this draw
+unfoldable pub landing : ℕ → ℕ → Drawn → Descent
+landing r b d = record { landed = record { bucket = b; drawn = d }; events = Drew b r d ∷ [] }
+
+-- this draw, and then the rest of the descent
+unfoldable pub deeper : ℕ → ℕ → Drawn → Descent → Descent
+deeper r b d rest = record { landed = rest .landed; events = Drew b r d ∷ rest .events }
+
+-- "If the winner's type is above the wanted type t, the walk goes on in the bucket drawn": go is the descent from there, and the
+-- last argument says whether the type is above t
+unfoldable pub onWinner : (ℕ → Descent) → ℕ → ℕ → ℕ → Bool → Descent
+onWinner go r b i true = deeper r b (Winner i) (go (bucketNumber i))
+onWinner go r b i false = landing r b (Winner i)
+
+-- v, the group x, the wanted type t and the try number r
+module _ (v : View) (x t r : ℕ) where
+  unfoldable pub onDrawn : (ℕ → Descent) → ℕ → Drawn → Descent
+  onDrawn go b (Winner i) = onWinner go r b i (ltb t (v .type i))
+  onDrawn go b Nothing = landing r b Nothing
+
+  -- the descent from bucket b, whose type is at most k. The bucket drawn has a smaller type (question 9), so k does not run out, and more
+  -- than the type changes nothing (`descend-enough`, crate laws).
+  unfoldable pub descendIn : ℕ → ℕ → Descent
+  descendIn zero b = landing r b Nothing
+  descendIn (suc k) b = onDrawn (descendIn k) b (drawAt v x r b)
+
+  unfoldable pub descend : ℕ → Descent
+  descend b = descendIn (v .type (bucketItem b)) b
+
+-- ---- test
+
+-- "(hash of two (x, device)) mod 65,536 is less than its acceptance": h is the hash
+unfoldable pub accepts : ℕ → ℕ → Bool
+accepts h acceptance = ltb (h % 65536) acceptance
+
+unfoldable pub deviceAccepts : View → ℕ → ℕ → Bool
+deviceAccepts v x d = accepts (hash2 (v .seed) x d) (v .acceptance d)
+
+-- "a device must pass acceptance"
+unfoldable pub accepted : View → ℕ → ℕ → Bool
+accepted v x i = isBucket i || deviceAccepts v x i
+
+-- "the item is tested: it must not be held already by this select, for any bucket of the working list; and a device must pass
+-- acceptance": entries are those that this select has put out so far
+unfoldable pub verdictOf : View → ℕ → List ℕ → ℕ → Verdict
+verdictOf v x entries i = cond (has i entries) Held (cond (accepted v x i) Passed Rejected)
+
+-- ---- rank
+
+pub record TurnEvents : Type 0 where
+  pub turn : Turn
+  pub events : List Event
+
+pub record RankEvents : Type 0 where
+  pub ranked : Ranked
+  pub events : List Event
+
+-- "In each draw r' is r + f_r × n (independent) or r + f (first-n)."
+unfoldable pub tryNumber : Mode → ℕ → ℕ → State → ℕ
+tryNumber Independent n r s = r + s .fr * n
+tryNumber FirstN n r s = r + s .f
+
+-- "adds 1 to f_r and to f"; the next draw is at bucket b
+unfoldable pub failedTo : ℕ → State → State
+failedTo b s = record { at = b; fr = s .fr + 1; f = s .f + 1 }
+
+-- "After a held item, with f_r now below 3, the next draw is in the same bucket; otherwise it is at the rank's starting bucket."
+unfoldable pub retryAt : ℕ → ℕ → State → ℕ
+retryAt start b s = cond (ltb (s .fr + 1) 3) b start
+
+-- "A rank starts with f_r = 0 at that bucket."
+unfoldable pub rankStart : ℕ → ℕ → State
+rankStart b f₀ = record { at = b; fr = 0; f = f₀ }
+
+unfoldable pub rankEnd : ℕ → State → Ranked
+rankEnd i s = record { entry = i; fr = s .fr; f = s .f }
+
+-- "A pass fills the place. A failed test .. adds 1 to f_r and to f.": item i, drawn from bucket b
+unfoldable pub onVerdict : ℕ → State → ℕ → ℕ → Verdict → Turn
+onVerdict start s b i Held = Fail (failedTo (retryAt start b s) s)
+onVerdict start s b i Rejected = Fail (failedTo start s)
+onVerdict start s b i Passed = Fill i
+
+unfoldable pub tested : ℕ → State → ℕ → List Event → ℕ → Verdict → TurnEvents
+tested start s b es i w = record { turn = onVerdict start s b i w; events = es ++ (Tested i w ∷ []) }
+
+-- "a type below t, or a draw that finds none adds 1 to f_r and to f"
+unfoldable pub untested : ℕ → State → List Event → TurnEvents
+untested start s es = record { turn = Fail (failedTo start s); events = es }
+
+-- these events, and then the rest of the rank
+unfoldable pub onward : List Event → RankEvents → RankEvents
+onward es rest = record { ranked = rest .ranked; events = es ++ rest .events }
+
+-- what a turn leads to: go is the rest of the rank
+unfoldable pub afterTurn : (State → RankEvents) → State → List Event → Turn → RankEvents
+afterTurn go s es (Fill i) = record { ranked = rankEnd i s; events = es }
+afterTurn go s es (Fail s′) = onward es (go s′)
+
+unfoldable pub onTurn : (State → RankEvents) → State → TurnEvents → RankEvents
+onTurn go s k = afterTurn go s (k .events) (k .turn)
+
+-- v, the group x, the select (mode, count n, type t), the entries that it has put out so far, the rank's starting bucket and the rank r
+module _ (v : View) (x : ℕ) (mode : Mode) (n t : ℕ) (entries : List ℕ) (start r : ℕ) where
+  -- "If the type is t, the item is tested": the last argument says whether it is t
+  unfoldable pub onType : State → ℕ → List Event → ℕ → Bool → TurnEvents
+  onType s b es i true = tested start s b es i (verdictOf v x entries i)
+  onType s b es i false = untested start s es
+
+  unfoldable pub onLanded : State → ℕ → List Event → Drawn → TurnEvents
+  onLanded s b es (Winner i) = onType s b es i (eqb (v .type i) t)
+  onLanded s b es Nothing = untested start s es
+
+  unfoldable pub onDescent : State → Descent → TurnEvents
+  onDescent s d = onLanded s (d .landed .bucket) (d .events) (d .landed .drawn)
+
+  -- one turn: a descent, and the test of what it comes to
+  unfoldable pub turnOf : State → TurnEvents
+  turnOf s = onDescent s (descend v x t (tryNumber mode n r s) (s .at))
+
+  -- the rank from s on, with k failures left: k is 50 less f_r, since a turn that does not end the rank is one failure (`rank-ends`, crate laws)
+  unfoldable pub rankFrom : ℕ → State → RankEvents
+  rankFrom zero s = record { ranked = rankEnd hole s; events = [] }
+  rankFrom (suc k) s = onTurn (rankFrom k) s (turnOf s)
+
+  -- "At f_r = 50 the rank ends: independent leaves a hole": f₀ is f as the rank starts
+  unfoldable pub rankOf : ℕ → RankEvents
+  rankOf f₀ = rankFrom 50 (rankStart start f₀)

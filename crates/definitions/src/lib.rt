@@ -1,0 +1,151 @@
+// The structs and enums that the definitions share with code and contracts. No function is here.
+
+// ---- the map's frames
+
+// Frame 01.
+pub struct Device {
+    pub number: u32,
+    pub weight: u32,
+    pub acceptance: u32,
+}
+
+// Frame 02: a bucket's number and its type.
+pub struct Bucket {
+    pub number: u32,
+    pub ty: u32,
+}
+
+// Frame 03: a bucket and one of its children, by item number.
+pub struct Link {
+    pub bucket: u32,
+    pub child: u32,
+}
+
+// Frame 04: a step of the rule, with its count, type and bucket.
+pub struct Step {
+    pub step: u32,
+    pub count: u32,
+    pub ty: u32,
+    pub bucket: u32,
+}
+
+// The two ways to select.
+pub enum Mode {
+    FirstN,
+    Independent,
+}
+
+// What a step of the rule does: take a bucket; select a count of items of a type; emit. Idle is what no loaded map has.
+pub enum Action {
+    Take(u32),
+    Select(Mode, u32, u32),
+    Emit,
+    Idle,
+}
+
+// ---- hash
+
+// The three numbers that `mix` changes.
+pub struct Mix {
+    pub a: u32,
+    pub b: u32,
+    pub c: u32,
+}
+
+// A shift, left (true) or right (false), and by how many places.
+pub struct Row(pub bool, pub u32);
+
+// ---- the straw draw
+
+// m, at 31 binary places, and the digits found so far.
+pub struct Digits {
+    pub m: u64,
+    pub d: u64,
+}
+
+// The best child so far, by item number and key.
+pub enum Best {
+    Nobody,
+    Leads(u32, u64),
+}
+
+// "A draw ends in its winner or none": the winner's item number.
+pub enum Drawn {
+    Winner(u32),
+    Nothing,
+}
+
+// ---- walk, select and rule
+
+// "A test ends held, not accepted or passed."
+pub enum Verdict {
+    Held,
+    Rejected,
+    Passed,
+}
+
+// A draw (at a bucket, with a try number r') with its end, or a test (of an item) with its end.
+pub enum Event {
+    Drew(u32, u32, Drawn),
+    Tested(u32, Verdict),
+}
+
+// Where a descent comes to: the bucket of its last draw, and that draw's end.
+pub struct Landed {
+    pub bucket: u32,
+    pub drawn: Drawn,
+}
+
+// A rank between two turns: the bucket of the next draw, f_r and f.
+pub struct State {
+    pub at: u32,
+    pub fr: u32,
+    pub f: u32,
+}
+
+// What a turn of a rank leads to: the place is filled, or the rank goes on after one more failure.
+pub enum Turn {
+    Fill(u32),
+    Fail(State),
+}
+
+// What a rank ends in: its entry (65535 for none), f_r and f.
+pub struct Ranked {
+    pub entry: u32,
+    pub fr: u32,
+    pub f: u32,
+}
+
+// ---- table, edits, moves
+
+// An edit: a device's acceptance or weight and its new value. Malformed is a frame of no edit form.
+pub enum Change {
+    Acceptance(u32, u32),
+    Weight(u32, u32),
+    Malformed,
+}
+
+// Where the old and the new walk of a place first part, by the ends of a draw or of a test.
+pub enum Parting {
+    Same,
+    Draw(Drawn, Drawn),
+    Test(Verdict, Verdict),
+}
+
+// A move: group, place (from 1), old and new entry, cause.
+pub struct Move {
+    pub group: u32,
+    pub place: u32,
+    pub old: u32,
+    pub new: u32,
+    pub cause: u32,
+}
+
+// ---- questions at the door
+
+// Where a rule stands between two steps: outside any block; in a block, at the type reached; or in no order of blocks.
+pub enum Standing {
+    Outside,
+    Inside(u32),
+    Broken,
+}

@@ -1,0 +1,114 @@
+// Document 01, "Hash": Jenkins' mix, and the hashes of two and of three numbers.
+ghost use mathlib.Core.Path.{_≡_};
+ghost use Prim.Native.Nat.{_<_};
+ghost use lib.ListN.{getD};
+ghost use Rattle.definitions.specs.Hash.{minus, shiftedBy, right, rows, mixStep, mix, hash2, hash3};
+use definitions::Mix;
+use definitions::Row;
+
+// "The shifts are right 13, left 8, right 13; right 12, left 16, right 5; right 3, left 10, right 15."
+const ROWS: [Row; 9] = [
+    Row(false, 13),
+    Row(true, 8),
+    Row(false, 13),
+    Row(false, 12),
+    Row(true, 16),
+    Row(false, 5),
+    Row(false, 3),
+    Row(true, 10),
+    Row(false, 15),
+];
+
+// x - y, wrapping at 32 bits.
+fn minus(x: u32, y: u32) -> u32
+    ensures { λ d. ⌜ d ≡ minus x y ⌝ }
+{
+    std::num::wrapping_sub_u32(x, y)
+}
+
+// z shifted as the row says.
+fn shifted(r: Row, z: u32) -> u32
+    requires { ⌜ r .1 < 32 ⌝ }
+    ensures { λ s. ⌜ s ≡ shiftedBy (r .0) (r .1) z ⌝ }
+{
+    if r.0 { z << r.1 } else { z >> r.1 }
+}
+
+// Step i of the nine: the target stands first and its neighbour last, and the three are then turned by one place.
+pub fn mix_step(i: usize, m: Mix) -> Mix
+    requires { ⌜ i < 9 ⌝ }
+    ensures { λ n. ⌜ n ≡ mixStep (getD rows i (right 0)) m ⌝ }
+{
+    let r = ROWS[i];
+    let t = minus(minus(m.a, m.b), m.c);
+    Mix {
+        a: m.b,
+        b: m.c,
+        c: t ^ shifted(r, m.c),
+    }
+}
+
+pub fn mix(m: Mix) -> Mix
+    ensures { λ n. ⌜ n ≡ mix m ⌝ }
+{
+    let mut n = m;
+    for i in 0..9usize {
+        n = mix_step(i, n);
+    }
+    n
+}
+
+// What v and w start at.
+const V: u32 = 231232;
+
+const W: u32 = 1232;
+
+// The hash of two numbers; the seed is S in document 01.
+pub fn hash2(seed: u32, p: u32, q: u32) -> u32
+    ensures { λ h. ⌜ h ≡ hash2 seed p q ⌝ }
+{
+    let k = mix(Mix {
+        a: p,
+        b: q,
+        c: seed ^ p ^ q,
+    });
+    let l = mix(Mix {
+        a: V,
+        b: k.a,
+        c: k.c,
+    });
+    let m = mix(Mix {
+        a: k.b,
+        b: W,
+        c: l.c,
+    });
+    m.c
+}
+
+// The hash of three numbers; the seed is S in document 01.
+pub fn hash3(seed: u32, p: u32, q: u32, s: u32) -> u32
+    ensures { λ h. ⌜ h ≡ hash3 seed p q s ⌝ }
+{
+    let k = mix(Mix {
+        a: p,
+        b: q,
+        c: seed ^ p ^ q ^ s,
+    });
+    let l = mix(Mix { a: s, b: V, c: k.c });
+    let m = mix(Mix {
+        a: W,
+        b: k.a,
+        c: l.c,
+    });
+    let n = mix(Mix {
+        a: k.b,
+        b: l.b,
+        c: m.c,
+    });
+    let o = mix(Mix {
+        a: m.a,
+        b: l.a,
+        c: n.c,
+    });
+    o.c
+}

@@ -1,0 +1,6 @@
+-- What follows from the definitions, each law once, one file a subject.
+pub mod Lists
+pub mod Hash
+pub mod Logarithm
+pub mod Draw
+pub mod Fuel

@@ -1,0 +1,1 @@
+// No function is here: what follows from the definitions, each law once.

@@ -1,0 +1,1 @@
+// No function is here: the starred samples of document 01.

@@ -1,0 +1,3 @@
+// Document 01, "The straw draw".
+pub mod draw;
+pub mod logarithm;

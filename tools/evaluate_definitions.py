@@ -1,0 +1,572 @@
+#!/usr/bin/env python3
+"""Evaluates the definitions (crates/definitions) against a CRUSH in Python by another hand.
+
+usage: evaluate_definitions.py --oracle DIR [--seed N] [--maps N] [--edits N] [--damaged N] [--walks N]
+                [--leaves N] [--ties N] [--keys N] [--per N]
+                [--crate DIR] [--keep] [--wrong] [--verbose]
+
+DIR holds the reference: crush.py, fill.py and gen.py.
+
+Takes inputs from the reference's generator (small maps, 1 to 3 groups), has
+the reference compute what should come out, writes each as an antt theorem
+`DEFINITION ARGUMENTS ≡ EXPECTED` proved by `refl`, and has `rt check` judge
+them, in a scratch repository outside this one.  Prints how many held.
+
+  --leaves   hashes of two and of three, logarithms and keys, of random numbers
+  --maps     valid maps: load, write, day, placing of every group (places and
+             tries), the daemon's bytes
+  --edits    maps with a list of edits: number, count of moves, map, table and
+             moves after each edit
+  --damaged  damaged maps, and maps at a limit: load's number
+  --ties     maps made for equal keys, and for keys one step apart: one group
+  --walks    maps of which each place's whole walk (draws and tests) is compared
+  --keys     most straw keys (and tests of acceptance, at 0.6) one theorem may
+             need: a theorem may take 50 million steps, and a key takes some
+             65,000
+  --per      theorems a crate
+  --wrong    changes every expected value: each theorem must be refused
+"""
+import argparse
+import os
+import random
+import re
+import resource
+import shutil
+import subprocess
+import sys
+import tempfile
+import time
+
+HERE = os.path.dirname(os.path.abspath(__file__))
+CRATE = os.path.join(HERE, '..', 'crates', 'definitions')
+
+ap = argparse.ArgumentParser()
+for name, value in (('seed', 1), ('maps', 4), ('edits', 2), ('damaged', 6),
+                    ('walks', 1), ('leaves', 5), ('ties', 0), ('keys', 500),
+                    ('per', 60)):
+    ap.add_argument('--' + name, type=int, default=value)
+ap.add_argument('--oracle', required=True)
+ap.add_argument('--crate', default=CRATE)
+ap.add_argument('--keep', action='store_true')
+ap.add_argument('--wrong', action='store_true')
+ap.add_argument('--verbose', action='store_true')
+ARGS = ap.parse_args()
+CRATE = os.path.abspath(ARGS.crate)
+
+sys.path.insert(0, ARGS.oracle)
+import crush  # noqa: E402
+import fill   # noqa: E402
+import gen    # noqa: E402
+
+
+# ------------------------------------------------------------ antt text
+
+def header():
+    """What stands above the theorems, and the line under each signature."""
+    of = 'Rattle.definitions.specs.'
+    return """-- Written by evaluate_definitions.py.
+use mathlib.Core.Path.{_≡_, refl}
+use mathlib.Core.List.{List, [], _∷_, map}
+use Prim.Native.Nat.{ℕ, zero, suc, _+_, _*_, _/_, _%%_}
+use lib.ListN.{replicate}
+use %(of)sdeclared.Drawn.{Drawn}
+use %(of)sdeclared.Drawn.the-variants.{Winner, Nothing}
+use %(of)sdeclared.Verdict.{Verdict}
+use %(of)sdeclared.Verdict.the-variants.{Held, Rejected, Passed}
+use %(of)sdeclared.Event.{Event}
+use %(of)sdeclared.Event.the-variants.{Drew, Tested}
+use %(of)sHash.{hash2, hash3}
+use %(of)sStraw.{L, key}
+use %(of)sMap.{mapOf}
+use %(of)sSelect.{Place}
+use %(of)sRule.{placedOf}
+use %(of)sCalls.{loadOf, placeOf, daemonOf, fillOf, editOf, writeOf, dayOf}
+use %(of)sOpen.{computing}
+
+-- the k bytes that a number spells, highest first
+bytesTo : ℕ → ℕ → List ℕ → List ℕ
+bytesTo zero n acc = acc
+bytesTo (suc k) n acc = bytesTo k (n / 256) (n %% 256 ∷ acc)
+
+-- an event as a number
+drawnCode : Drawn → ℕ
+drawnCode (Winner i) = i + 1
+drawnCode Nothing = 0
+
+verdictCode : Verdict → ℕ
+verdictCode Held = 1
+verdictCode Rejected = 2
+verdictCode Passed = 3
+
+eventCode : Event → ℕ
+eventCode (Drew b r d) = ((drawnCode d * 1000000 + r) * 1000 + b) * 10
+eventCode (Tested i v) = i * 10 + verdictCode v
+""" % {'of': of}, 'unfolding computing bytesTo drawnCode verdictCode eventCode'
+
+
+def open_names():
+    """Every unfoldable definition must stand in specs/Open.antt."""
+    opened = open(os.path.join(CRATE, 'specs', 'Open.antt')).read()
+    opened = re.search(r'(?m)^unfolding (.*)$', opened).group(1).split()
+    missing = []
+    for mod in re.findall(r'^pub mod (\S+)',
+                          open(os.path.join(CRATE, 'specs', 'Lib.antt')).read(),
+                          re.M):
+        if mod == 'Open':
+            continue
+        for line in open(os.path.join(CRATE, 'specs', mod + '.antt')):
+            m = re.match(r'\s*unfoldable pub (\S+) :', line)
+            if m and m.group(1) not in opened:
+                missing.append(mod + '.' + m.group(1))
+    if missing:
+        raise SystemExit('not in specs/Open.antt: ' + ' '.join(missing))
+
+
+def text(b):
+    """bytes as an antt list"""
+    return '(bytesTo %d 0x%s [])' % (len(b), bytes(b).hex() or '0')
+
+
+def numbers(ns):
+    return '(%s)' % ' ∷ '.join([str(n) for n in ns] + ['[]'])
+
+
+class Theorems:
+    def __init__(self):
+        self.items = []                      # (name, kind, keys, text)
+
+    def add(self, kind, what, left, right, keys=0):
+        name = 't%d' % len(self.items)
+        if ARGS.wrong:
+            right = spoil(right)
+        self.items.append((name, kind, keys,
+                           '-- %s: %s\n%s : %s ≡ %s' % (kind, what, name, left,
+                                                       right)))
+
+
+def spoil(right):
+    """The expected value with its last number changed."""
+    m = list(re.finditer(r'(?<![\w.])(0x[0-9a-f]+|\d+)(?![\w])', right))[-1]
+    value = int(m.group(1), 0) + 1
+    return right[:m.start()] + str(value) + right[m.end():]
+
+
+# --------------------------------------------------------------- inputs
+
+def small_doc(seed, indep=None):
+    """A valid map of the reference's generator, with 1 to 3 groups."""
+    rng = random.Random('defs:%d:%s' % (seed, indep))
+    while True:
+        d = gen.crowd(rng) if rng.random() < 0.4 else gen.build(rng)
+        if not d.steps:
+            continue
+        d.G = rng.choice([1, 2, 2, 3])
+        firstn = any(s[0] == 2 for s in d.steps)
+        if indep is not None and firstn == indep:
+            continue
+        if len(d.bytes()) > 1500:
+            continue
+        return rng, d
+
+
+ACCEPTS = [0]
+plain_accepts = crush.accepts
+
+
+def counting_accepts(mp, x, device):
+    ACCEPTS[0] += 1
+    return plain_accepts(mp, x, device)
+
+
+crush.accepts = counting_accepts
+
+
+def keys_of(run):
+    """The value of run(), and what its evaluation costs, in straw keys."""
+    crush.cost.cache_clear()
+    ACCEPTS[0] = 0
+    value = run()
+    info = crush.cost.cache_info()
+    return value, info.hits + info.misses + ACCEPTS[0] * 6 // 10
+
+
+def runs_cost(mp):
+    return sum(keys_of(lambda g=g: crush.rule(mp, g))[1] for g in range(mp.G))
+
+
+STATS = {}
+
+
+def note_stats():
+    for k, v in crush.STATS.items():
+        STATS[k] = STATS.get(k, 0) + v
+    crush.STATS.clear()
+
+
+def leaves(ths, count):
+    rng = random.Random('leaves:%d' % ARGS.seed)
+    word = lambda: rng.choice([rng.randrange(2 ** 32), rng.randrange(70000)])
+    for i in range(count):
+        p, q, s = word(), word(), word()
+        ths.add('leaf', 'hash of two', 'hash2 %d %d %d' % (crush.S, p, q),
+                str(crush.hash2(p, q)))
+        ths.add('leaf', 'hash of three',
+                'hash3 %d %d %d %d' % (crush.S, p, q, s),
+                str(crush.hash3(p, q, s)))
+        u = rng.choice([word() + 1, 2 ** rng.randrange(33),
+                        2 ** rng.randrange(1, 33) - 1])
+        ths.add('leaf', 'logarithm', 'L %d' % u, str(crush.L(u)))
+        c, k = rng.randrange(2 ** 25), rng.choice([1, rng.randrange(1, 65536)])
+        ths.add('leaf', 'key', 'key %d %d' % (c, k), str(crush.key(c, k)))
+
+
+def valid_maps(ths, count):
+    seed, done = ARGS.seed * 100000, 0
+    tries = groups = holes = 0
+    crush.STATS.clear()
+    while done < count:
+        seed += 1
+        rng, d = small_doc(seed)
+        data = d.bytes()
+        mp = crush.load(data)
+        assert not isinstance(mp, int), mp
+        crush.STATS.clear()
+        runs = [keys_of(lambda g=g: crush.rule(mp, g)) for g in range(mp.G)]
+        if any(k > ARGS.keys for _, k in runs):
+            continue
+        note_stats()
+        done += 1
+        w = mp.W
+        b = text(data)
+        ths.add('load', 'seed %d' % seed, 'loadOf %s' % b, '0')
+        ths.add('write', 'seed %d' % seed,
+                'writeOf %s (replicate %d 7)' % (b, len(data) + 1),
+                'record { number = 0; bytes = %d; space = %s }'
+                % (len(data), text(data + b'\7')))
+        show, day = rng.randrange(2 ** 32), rng.randrange(2 ** 32)
+        ths.add('day', 'seed %d' % seed, 'dayOf %s %d %d' % (b, show, day),
+                'record { number = 0; group = %d }'
+                % crush.day_group(mp, show, day))
+        extra = rng.choice([0, 0, 1, 3])
+        for g, ((places, tr), k) in enumerate(runs):
+            groups += 1
+            tries += tr
+            holes += places.count(65535)
+            ths.add('place', 'seed %d group %d, %d keys' % (seed, g, k),
+                    'placeOf %s %d (replicate %d 7)' % (b, g, w + extra),
+                    'record { number = 0; places = %d; tries = %d; row = %s }'
+                    % (w, tr, numbers(places + [7] * extra)), k)
+        g = rng.randrange(mp.G)
+        space = bytearray(b'\7' * (2 * w + extra))
+        number, n, tr = crush.place(data, g, space)
+        ths.add('daemon', 'seed %d group %d' % (seed, g),
+                'daemonOf %s %d (replicate %d 7)' % (b, g, 2 * w + extra),
+                'record { number = %d; places = %d; tries = %d; out = %s }'
+                % (number, n, tr, text(space)), runs[g][1])
+        ths.add('refusal', 'seed %d no such group' % seed,
+                'placeOf %s %d (replicate %d 7)' % (b, mp.G, w),
+                'record { number = 15; places = 0; tries = 0; row = %s }'
+                % numbers([7] * w))
+        ths.add('refusal', 'seed %d row too short' % seed,
+                'placeOf %s 0 (replicate %d 7)' % (b, w - 1),
+                'record { number = 16; places = 0; tries = 0; row = %s }'
+                % numbers([7] * (w - 1)))
+    print('maps: %d, groups placed: %d, tries in all: %d, holes: %d'
+          % (count, groups, tries, holes))
+    print('reached in placing:', ', '.join('%s: %d' % c
+                                           for c in sorted(STATS.items())))
+
+
+def edit_theorem(ths, what, mp, table, frame, space, keys, data=None):
+    data = crush.map_bytes(mp) if data is None else data
+    res = crush.edit(mp, table, frame, space)
+    moved = res.bytes()
+    lent = b'\7' * space
+    ths.add('edit', '%s, %d keys' % (what, keys),
+            'editOf %s %s %s %s' % (text(data), numbers(table), text(frame),
+                                    text(lent)),
+            'record { number = %d; moves = %d; frames = %s; table = %s; '
+            'space = %s }' % (res.number, res.count(),
+                              text(crush.map_bytes(res.map)),
+                              numbers(res.table),
+                              text(moved + lent[len(moved):])), keys)
+    return res
+
+
+def good_edits(rng, d, count):
+    """Edits that are mostly good and mostly of a device that is placed."""
+    gen.add_edits(rng, d, count)
+    mp = crush.load(b''.join(l + b'\n' for l in d.lines()))
+    held = [p for p in crush.fresh_fill(mp) if p != crush.HOLE]
+    for i in range(len(d.edits)):
+        if held and rng.random() < 0.6:
+            dev = rng.choice(held)
+            w, a = mp.devices[dev]
+            d.edits[i] = rng.choice([
+                b'21%04x%08x' % (dev, 0), b'22%04x%08x' % (dev, 0),
+                b'22%04x%08x' % (dev, min(65535, w * rng.choice([2, 5, 50]))),
+                b'22%04x%08x' % (dev, w // 3), b'21%04x%08x' % (dev, 65536)])
+    return mp
+
+
+def edited(mp, line):
+    """The map with the edit put in, whether or not there is room for it."""
+    form = crush.edit_form(line)
+    if form is None or not crush.edit_value_ok(mp, *form):
+        return mp
+    kind, device, value = form
+    return mp.with_device(device, **{'acceptance' if kind == '21' else
+                                     'weight': value})
+
+
+def edit_maps(ths, count):
+    seed, done = ARGS.seed * 100000, 0
+    good = refused = moves = 0
+    causes, numbers_seen = {}, {}
+
+    def counted(res):
+        nonlocal good, refused, moves
+        numbers_seen[res.number] = numbers_seen.get(res.number, 0) + 1
+        if res.number:
+            refused += 1
+        else:
+            good += 1
+        for mv in res.moves:
+            causes[mv[4]] = causes.get(mv[4], 0) + 1
+            moves += 1
+
+    while done < count:
+        seed += 1
+        rng, d = small_doc(seed, True)
+        mp = good_edits(rng, d, rng.choice([2, 3, 4]))
+        table = crush.fresh_fill(mp) + [7] * rng.choice([0, 0, 2])
+        plan, now, tab = [], mp, table
+        met = set()
+        for line in d.edits:
+            size = rng.choice([0, 23, 46, 230, 2300, 2300, 2300])
+            res = crush.edit(now, tab, line, size)
+            k = runs_cost(now) + runs_cost(edited(now, line))
+            plan.append((now, tab, line, size, k))
+            met |= {mv[4] for mv in res.moves}
+            now, tab = res.map, res.table
+        if any(k > ARGS.keys for *_, k in plan):
+            continue
+        # every other list has a move with cause 03, most of the others a move
+        if done % 2 == 0 and '03' not in met:
+            continue
+        if not met and rng.random() < 0.8:
+            continue
+        done += 1
+        for i, (m, t, line, size, k) in enumerate(plan):
+            counted(edit_theorem(ths, 'seed %d edit %d' % (seed, i), m, t, line,
+                                 size, k))
+        m, t, line, size, k = plan[0]
+        counted(edit_theorem(ths, 'seed %d table too short' % seed, m,
+                             t[:m.G * m.W - 1], line, size, k))
+        bad = list(t)
+        i = rng.randrange(m.G * m.W)
+        bad[i] = rng.choice([65535, 0, bad[i] ^ 1])
+        counted(edit_theorem(ths, 'seed %d table altered' % seed, m, bad, line,
+                             size, k))
+        good_one = crush.edit(m, t, line, 65536)
+        if good_one.moves:
+            counted(edit_theorem(ths, 'seed %d space short by one' % seed, m, t,
+                                 line, 23 * good_one.count() - 1, k))
+            counted(edit_theorem(ths, 'seed %d space just enough' % seed, m, t,
+                                 line, 23 * good_one.count(), k))
+        fresh = crush.fresh_fill(m)
+        ths.add('fill', 'seed %d' % seed,
+                'fillOf %s (replicate %d 7)' % (text(crush.map_bytes(m)),
+                                                len(fresh) + 2),
+                'record { number = 0; places = %d; table = %s }'
+                % (len(fresh), numbers(fresh + [7, 7])), runs_cost(m))
+    # first-n maps: 17
+    for seed in range(ARGS.seed * 100000, ARGS.seed * 100000 + (count + 3) // 4):
+        rng, d = small_doc(seed, False)
+        d.G = 1
+        gen.add_edits(rng, d, 1)
+        mp = crush.load(b''.join(l + b'\n' for l in d.lines()))
+        table, k = keys_of(lambda: crush.fresh_fill(mp))
+        counted(edit_theorem(ths, 'seed %d first-n' % seed, mp, table,
+                             d.edits[0], 100, 0))
+    print('edits: %d maps, good: %d, refused: %d, moves: %d, causes: %s, '
+          'numbers: %s'
+          % (count, good, refused, moves,
+             ' '.join('%s: %d' % c for c in sorted(causes.items())),
+             ' '.join('%d: %d' % c for c in sorted(numbers_seen.items()))))
+
+
+def damaged_maps(ths, count):
+    seed, done = ARGS.seed * 1000, 0
+    numbers_seen = {}
+    while done < count:
+        seed += 1
+        kind = 'damaged' if seed % 3 else 'edges'
+        data = fill.split_input(gen.generate(seed, kind))[0]
+        if len(data) > 4000:
+            continue
+        done += 1
+        res = crush.load(data)
+        number = res if isinstance(res, int) else 0
+        numbers_seen[number] = numbers_seen.get(number, 0) + 1
+        ths.add('load', '%s %d' % (kind, seed), 'loadOf %s' % text(data),
+                str(number))
+        if number:
+            ths.add('refusal', '%s %d' % (kind, seed),
+                    'editOf %s (1 ∷ []) (2 ∷ []) (3 ∷ [])' % text(data),
+                    'record { number = 14; moves = 0; frames = %s; '
+                    'table = 1 ∷ []; space = 3 ∷ [] }' % text(data))
+            ths.add('refusal', '%s %d' % (kind, seed),
+                    'daemonOf %s 0 (3 ∷ [])' % text(data),
+                    'record { number = %d; places = 0; tries = 0; '
+                    'out = 3 ∷ [] }' % number)
+    print('damaged: %d maps, numbers: %s'
+          % (count, ' '.join('%d: %d' % c for c in sorted(numbers_seen.items()))))
+
+
+def tie_maps(ths, count):
+    made = 0
+    for seed in range(ARGS.seed * 1000, ARGS.seed * 1000 + count):
+        rng = random.Random('ties:%d' % seed)
+        make = rng.choice([gen.e_tie, gen.e_tie_bucket, gen.e_floor_tie,
+                           gen.e_precision, gen.e_truncation])
+        data = fill.split_input(make(rng))[0]
+        mp = crush.load(data)
+        g = mp.G - 1
+        (places, tr), k = keys_of(lambda: crush.rule(mp, g))
+        if k > ARGS.keys:
+            continue
+        made += 1
+        ths.add('tie', '%s %d group %d, %d keys' % (make.__name__, seed, g, k),
+                'placeOf %s %d (replicate %d 7)' % (text(data), g, mp.W),
+                'record { number = 0; places = %d; tries = %d; row = %s }'
+                % (mp.W, tr, numbers(places)), k)
+    if count:
+        print('ties: %d maps' % made)
+
+
+def event_code(e):
+    if isinstance(e, crush.Draw):
+        d = 0 if e.winner is None else e.winner + 1
+        return ((d * 1000000 + e.rp) * 1000 + e.bucket) * 10
+    v = {crush.HELD: 1, crush.NOT_ACCEPTED: 2, crush.PASSED: 3}[e.result]
+    return e.item * 10 + v
+
+
+def walk_maps(ths, count):
+    seed, done, events = ARGS.seed * 100000 + 50000, 0, 0
+    while done < count:
+        seed += 1
+        rng, d = small_doc(seed)
+        mp = crush.load(d.bytes())
+        g = rng.randrange(mp.G)
+        run, k = keys_of(lambda: crush.Run(mp, g))
+        if k > ARGS.keys:
+            continue
+        done += 1
+        walks = [[event_code(e) for _, _, e in p.walk()] for _, p in run.final]
+        walks += [[]] * (mp.W - len(walks))
+        events += sum(map(len, walks))
+        ths.add('walk', 'seed %d group %d, %d keys' % (seed, g, k),
+                'map (λ (p : Place). map eventCode (p .walk)) '
+                '(placedOf (mapOf %s) %d .places)' % (text(d.bytes()), g),
+                '(%s)' % ' ∷ '.join([numbers(w) for w in walks] + ['[]']), k)
+    if count:
+        print('walks: %d maps, events compared: %d' % (count, events))
+
+
+# ------------------------------------------------------------- checking
+
+def run(ths, root):
+    head, opened = header()
+    crates = []
+    items = ths.items
+    for i in range(0, len(items), ARGS.per):
+        name = 'check%d' % (i // ARGS.per)
+        crates.append((name, items[i:i + ARGS.per]))
+        base = os.path.join(root, 'crates', name)
+        os.makedirs(os.path.join(base, 'src'))
+        os.makedirs(os.path.join(base, 'specs'))
+        open(os.path.join(base, 'src', 'lib.rt'), 'w').write(
+            '// Written by evaluate_definitions.py: no code.\n')
+        open(os.path.join(base, 'specs', 'Lib.antt'), 'w').write(
+            'pub mod Check\n')
+        with open(os.path.join(base, 'specs', 'Check.antt'), 'w') as f:
+            f.write(head + '\n')
+            for n, _, _, t in items[i:i + ARGS.per]:
+                f.write('%s\n%s\n%s = refl\n\n' % (t, opened, n))
+    with open(os.path.join(root, 'crates.txt'), 'w') as f:
+        f.write('definitions:\n')
+        for name, _ in crates:
+            f.write('%s: definitions\n' % name)
+    held = {}
+    total = {}
+    failed = []
+    limit = set()
+    env = dict(os.environ, RT_JOBS='1', RT_CUT='400')
+    began = time.time()
+    cpu = resource.getrusage(resource.RUSAGE_CHILDREN).ru_utime
+    for name, its in crates:
+        at = time.time()
+        p = subprocess.run(['rt', 'check', name], cwd=root, env=env,
+                           stdout=subprocess.PIPE, stderr=subprocess.STDOUT)
+        out = p.stdout.decode(errors='replace')
+        bad = set(re.findall(r'specs/Check\.antt:\d+:\d+: error: `(t\d+)`', out))
+        bad |= set(re.findall(r'in `(t\d+)`', out))
+        limit |= set(re.findall(r'error: `(t\d+)`: .*stopped at the step limit',
+                                out))
+        if p.returncode and not bad:
+            print(out[-3000:])
+            raise SystemExit('evaluate_definitions.py: rt check failed, with no theorem named')
+        if not p.returncode and bad:
+            raise SystemExit('evaluate_definitions.py: rt check passed and named a theorem')
+        for n, kind, keys, t in its:
+            total[kind] = total.get(kind, 0) + 1
+            if n in bad:
+                failed.append((n, kind, t))
+            else:
+                held[kind] = held.get(kind, 0) + 1
+        if ARGS.verbose:
+            now = resource.getrusage(resource.RUSAGE_CHILDREN)
+            print('%s: %d equations, %d refused, %d keys, %.1f s (CPU %.1f s, '
+                  'so far at most %d MB)' % (
+                      name, len(its), len(bad), sum(i[2] for i in its),
+                      time.time() - at, now.ru_utime - cpu,
+                      now.ru_maxrss // 1024))
+            cpu = now.ru_utime
+            sys.stdout.flush()
+    if ARGS.keep:
+        print('kept', root)
+    else:
+        shutil.rmtree(root)
+    if not ARGS.wrong:
+        for n, kind, t in failed:
+            print('TOO LONG' if n in limit else 'REFUSED', n, kind, t[:300])
+    print('%d equations in %d crates, %.0f s' % (len(items), len(crates),
+                                                 time.time() - began))
+    print('  '.join('%s: %d of %d' % (k, held.get(k, 0), total[k])
+                    for k in sorted(total)))
+    ok = sum(held.values())
+    if ARGS.wrong:
+        print('wrong values: %d refused, %d taken' % (len(failed), ok))
+        return 1 if ok else 0
+    print('held: %d of %d' % (ok, len(items)))
+    return 1 if failed else 0
+
+
+def main():
+    root = tempfile.mkdtemp(prefix='defs-check-')
+    copy = os.path.join(root, 'crates', 'definitions')
+    shutil.copytree(CRATE, copy)
+    open_names()
+    ths = Theorems()
+    leaves(ths, ARGS.leaves)
+    valid_maps(ths, ARGS.maps)
+    edit_maps(ths, ARGS.edits)
+    damaged_maps(ths, ARGS.damaged)
+    tie_maps(ths, ARGS.ties)
+    walk_maps(ths, ARGS.walks)
+    sys.exit(run(ths, root))
+
+
+main()
