@@ -8,7 +8,7 @@ use native.Mathlib.Nat.{le-of-lt}
 use lib.ListN.{length, getD, drop, take, set, length-append, length-drop, drop-of-length-le}
 use lib.Seq.{drop-cons, take-suc, set-at, take-length, length-take-le}
 use native.Mathlib.Numerals.{add-one}
-use Rattle.definitions.specs.Lists.{every, kept}
+use Rattle.definitions.specs.Lists.{every, kept, linkedFrom, linked}
 
 pub both : (a b : Bool) → a && b ≡ true → (a ≡ true) × (b ≡ true)
 both true b e = (refl, e)
@@ -95,6 +95,53 @@ pub map-same : {A : Type 0} (f : A → Bool) (g : A → A) (xs : List A) → ((x
 map-same f g [] h e = refl
 map-same f g (x ∷ xs) h e = rw (h x (every-head f x xs e), map-same f g xs h (every-tail f x xs e))
 
+-- each kept passes the test
+pub kept-every : {A : Type 0} (f : A → Bool) (xs : List A) → every f (kept f xs) ≡ true
+unfolding kept every
+kept-every f [] = refl
+kept-every f (x ∷ xs) = go (f x) refl (kept-every f xs)
+  where
+    go : (b : Bool) → f x ≡ b → every f (kept f xs) ≡ true → every f (cond b (x ∷ kept f xs) (kept f xs)) ≡ true
+    go true e ih = and-both e ih
+    go false e ih = ih
+
+-- those kept of two lists
+pub kept-append : {A : Type 0} (f : A → Bool) (xs ys : List A) → kept f (xs ++ ys) ≡ kept f xs ++ kept f ys
+unfolding kept
+kept-append f [] ys = refl
+kept-append f (x ∷ xs) ys = go (f x) (kept-append f xs ys)
+  where
+    go : (b : Bool) → kept f (xs ++ ys) ≡ kept f xs ++ kept f ys
+        → cond b (x ∷ kept f (xs ++ ys)) (kept f (xs ++ ys)) ≡ cond b (x ∷ kept f xs) (kept f xs) ++ kept f ys
+    go true ih = ap (λ (l : List _). x ∷ l) ih
+    go false ih = ih
+
+-- all are kept where each passes
+pub kept-same : {A : Type 0} (f : A → Bool) (xs : List A) → every f xs ≡ true → kept f xs ≡ xs
+unfolding kept
+kept-same f [] e = refl
+kept-same f (x ∷ xs) e = rw (every-head f x xs e, kept-same f xs (every-tail f x xs e))
+
+-- a chain, taken apart
+module _ {A : Type 0} (p : A → A → Bool) (x y : A) (ys : List A) (e : linkedFrom p x (y ∷ ys) ≡ true) where
+  pub linked-head : p x y ≡ true
+  unfolding linkedFrom
+  linked-head = both (p x y) (linkedFrom p y ys) e .0
+
+  pub linked-tail : linkedFrom p y ys ≡ true
+  unfolding linkedFrom
+  linked-tail = both (p x y) (linkedFrom p y ys) e .1
+
+-- a chain without its first
+pub linked-rest : {A : Type 0} (p : A → A → Bool) (x : A) (xs : List A) → linkedFrom p x xs ≡ true → linked p xs ≡ true
+unfolding linked
+linked-rest p x [] e = refl
+linked-rest p x (y ∷ ys) e = linked-tail p x y ys e
+
+-- a test over two lists, taken apart
+pub every-parts : {A : Type 0} (f : A → Bool) (xs ys : List A) → every f (xs ++ ys) ≡ true → (every f xs ≡ true) × (every f ys ≡ true)
+every-parts f xs ys e = both (every f xs) (every f ys) (sym (every-append f xs ys) ∙ e)
+
 -- a front f that is being written over a list t: one entry more, and all of them
 pub front-more : {A : Type 0} (f t : List A) (i : ℕ) (v d : A) → i < length f → i < length t → v ≡ getD f i d
     → set (take i f ++ drop i t) i v ≡ take (i + 1) f ++ drop (i + 1) t
@@ -113,3 +160,34 @@ pub getD-mapped : {A B : Type 0} (f : A → B) (xs : List A) (i : ℕ) (d : A) (
 getD-mapped f [] i d e h = absurd (omega arith)
 getD-mapped f (x ∷ xs) zero d e h = refl
 getD-mapped f (x ∷ xs) (suc i) d e h = getD-mapped f xs i d e (omega arith)
+
+-- a loop that compares each entry with the one before it
+module _ {A : Type 0} (p : A → A → Bool) (xs : List A) (d : A) where
+  pub linked-start : 0 < length xs → linkedFrom p (getD xs 0 d) (drop 1 xs) ≡ linked p xs
+  unfolding linked
+  linked-start h = go xs h
+    where
+      go : (ys : List A) → 0 < length ys → linkedFrom p (getD ys 0 d) (drop 1 ys) ≡ linked p ys
+      go [] h = absurd (omega arith)
+      go (y ∷ ys) h = refl
+
+  pub linked-next : (k : ℕ) (last : A) → k < length xs → p last (getD xs k d) ≡ true
+      → linkedFrom p (getD xs k d) (drop (k + 1) xs) ≡ linkedFrom p last (drop k xs)
+  unfolding linkedFrom
+  linked-next k last h e = rw (add-one k, drop-cons xs k d h, e)
+
+  pub linked-stop : (k : ℕ) (last : A) → k < length xs → p last (getD xs k d) ≡ false → linkedFrom p last (drop k xs) ≡ false
+  unfolding linkedFrom
+  linked-stop k last h e = rw (drop-cons xs k d h, e)
+
+  pub linked-end : (k : ℕ) (last : A) → length xs ≤ k → linkedFrom p last (drop k xs) ≡ true
+  unfolding linkedFrom
+  linked-end k last h = rw (drop-of-length-le xs {i = k} h)
+
+  pub linked-none : length xs ≡ 0 → linked p xs ≡ true
+  unfolding linked
+  linked-none h = go xs h
+    where
+      go : (ys : List A) → length ys ≡ 0 → linked p ys ≡ true
+      go [] h = refl
+      go (y ∷ ys) h = absurd (omega (arith, h))

@@ -1,0 +1,155 @@
+-- The places of the map's records in a text that questions 1 to 4 take: the fields of row k at its offset, and room for its line.
+use mathlib.Core.Path.{_≡_, refl, sym, subst}
+use mathlib.Core.List.{List, map}
+use Prim.Native.Nat.{ℕ, _+_, _*_, _<_, _≤_}
+use native.Mathlib.Omega.{arith}
+use lib.Dec.{lit<}
+use lib.ListN.{length, getD, drop, length-map, List·getD-map}
+use Rattle.definitions.specs.declared.Device.{Device}
+use Rattle.definitions.specs.declared.Bucket.{Bucket}
+use Rattle.definitions.specs.declared.Link.{Link}
+use Rattle.definitions.specs.declared.Step.{Step}
+use Rattle.text.specs.declared.Shape.{Shape}
+use Rattle.definitions.specs.Lists.{sum}
+use Rattle.definitions.specs.Frames.{value, Frame, layouts, layout, lineLength, framesIn, section, field, noFrame}
+use Rattle.definitions.specs.Map.{deviceIn, bucketIn, linkIn, stepIn, mapIn, mapOf}
+use Rattle.text.specs.Frames.{good-frames}
+use Rattle.text.specs.Shape.{shapeOf}
+use Rattle.text.specs.Places.{offset, digitsOf}
+use Rattle.text.specs.Map.{Ordered, in-order}
+use Rattle.text.specs.Rows.{base, row, row-field, row-room, base-devices, base-buckets, base-links, base-steps}
+use Rattle.text.specs.RoundTrip.{Framed, text-of-frames}
+
+-- no device
+abbrev pub noDevice : Device
+noDevice = record { number = 0; weight = 0; acceptance = 0 }
+
+-- no bucket
+abbrev pub noBucket : Bucket
+noBucket = record { number = 0; ty = 0 }
+
+-- no link
+abbrev pub noLink : Link
+noLink = record { bucket = 0; child = 0 }
+
+-- no step
+abbrev pub noStep : Step
+noStep = record { step = 0; count = 0; ty = 0; bucket = 0 }
+
+-- the line of a frame f of kind j starts at p
+pub record FrameAt (t : List ℕ) (j p : ℕ) (f : Frame) : Type 0 where
+  pub read : (i : ℕ) → i < length (layout j) → value (digitsOf j i) (drop (p + offset j i) t) ≡ field i f
+  pub room : p + (lineLength j + 1) ≤ length t
+
+-- the line of device d starts at p
+pub record DeviceAt (t : List ℕ) (p : ℕ) (d : Device) : Type 0 where
+  pub number : value 4 (drop (p + 2) t) ≡ d .number
+  pub weight : value 8 (drop (p + 6) t) ≡ d .weight
+  pub acceptance : value 8 (drop (p + 14) t) ≡ d .acceptance
+  pub room : p + 23 ≤ length t
+
+-- the line of bucket b starts at p
+pub record BucketAt (t : List ℕ) (p : ℕ) (b : Bucket) : Type 0 where
+  pub number : value 4 (drop (p + 2) t) ≡ b .number
+  pub ty : value 2 (drop (p + 6) t) ≡ b .ty
+  pub room : p + 9 ≤ length t
+
+-- the line of link l starts at p
+pub record LinkAt (t : List ℕ) (p : ℕ) (l : Link) : Type 0 where
+  pub bucket : value 4 (drop (p + 2) t) ≡ l .bucket
+  pub child : value 8 (drop (p + 6) t) ≡ l .child
+  pub room : p + 15 ≤ length t
+
+-- the line of step s starts at p
+pub record StepAt (t : List ℕ) (p : ℕ) (s : Step) : Type 0 where
+  pub step : value 2 (drop (p + 2) t) ≡ s .step
+  pub count : value 2 (drop (p + 4) t) ≡ s .count
+  pub ty : value 2 (drop (p + 6) t) ≡ s .ty
+  pub bucket : value 4 (drop (p + 8) t) ≡ s .bucket
+  pub room : p + 13 ≤ length t
+
+module _ (t : List ℕ) (h : Framed t) where
+  -- its frames are in order
+  in-order-of : Ordered (framesIn t)
+  in-order-of = in-order (framesIn t) (h .ordered)
+
+  -- row k of section j, which starts at b
+  pub frame-at : (j b k : ℕ) → j < 6 → base j (framesIn t) ≡ b → k < length (section j (framesIn t))
+      → FrameAt t j (b + k * (lineLength j + 1)) (getD (section j (framesIn t)) k noFrame)
+  frame-at j b k n e l =
+      let fs = framesIn t in
+      let r = row fs j k (good-frames t (h .formed)) (in-order-of .sorted) n l in
+      subst (λ (u : List ℕ). FrameAt u j (b + k * (lineLength j + 1)) (getD (section j fs) k noFrame)) (text-of-frames t h)
+      (rw (← e) (record { read = row-field fs j k r; room = row-room fs j k r }))
+
+  -- the same of the list that the map makes of section j
+  pub record-at : {A : Type 0} (j b k : ℕ) (g : Frame → A) (P : A → Type 0) → j < 6 → base j (framesIn t) ≡ b
+      → k < length (map g (section j (framesIn t))) → ((f : Frame) → FrameAt t j (b + k * (lineLength j + 1)) f → P (g f))
+      → P (getD (map g (section j (framesIn t))) k (g noFrame))
+  record-at j b k g P n e l q =
+      let s = section j (framesIn t) in
+      rw (List·getD-map g s k noFrame) (q (getD s k noFrame) (frame-at j b k n e (omega (arith, l, length-map s g))))
+
+  -- the count of groups
+  pub groups-at : (value 8 (drop 2 t) ≡ mapOf t .groups) × (11 ≤ length t)
+  unfolding mapIn layouts sum base
+  groups-at =
+      let r = frame-at 0 0 0 (lit< tt) refl (omega (arith, in-order-of .one-first)) in
+      (r .read 0 (lit< tt), r .room)
+
+  -- device k
+  pub device-at : (k : ℕ) → k < length (mapOf t .devices) → DeviceAt t (11 + k * 23) (getD (mapOf t .devices) k noDevice)
+  unfolding mapIn layouts sum
+  device-at k l =
+      record-at 1 11 k deviceIn (DeviceAt t (11 + k * 23)) (lit< tt) (base-devices (framesIn t) in-order-of) l
+      (λ f r. record { number = r .read 0 (lit< tt); weight = r .read 1 (lit< tt); acceptance = r .read 2 (lit< tt); room = r .room })
+
+  module _ (s : Shape) (e : s ≡ shapeOf (framesIn t)) where
+    -- bucket k
+    pub bucket-at : (k : ℕ) → k < length (mapOf t .buckets)
+        → BucketAt t (11 + s .devices * 23 + k * 9) (getD (mapOf t .buckets) k noBucket)
+    unfolding mapIn layouts sum
+    bucket-at k l =
+        let b = 11 + s .devices * 23 in
+        record-at 2 b k bucketIn (BucketAt t (b + k * 9)) (lit< tt) (base-buckets (framesIn t) s e in-order-of) l
+        (λ f r. record { number = r .read 0 (lit< tt); ty = r .read 1 (lit< tt); room = r .room })
+
+    -- link k
+    pub link-at : (k : ℕ) → k < length (mapOf t .links)
+        → LinkAt t (11 + s .devices * 23 + s .buckets * 9 + k * 15) (getD (mapOf t .links) k noLink)
+    unfolding mapIn layouts sum
+    link-at k l =
+        let b = 11 + s .devices * 23 + s .buckets * 9 in
+        record-at 3 b k linkIn (LinkAt t (b + k * 15)) (lit< tt) (base-links (framesIn t) s e in-order-of) l
+        (λ f r. record { bucket = r .read 0 (lit< tt); child = r .read 1 (lit< tt); room = r .room })
+
+    -- step k
+    pub step-at : (k : ℕ) → k < length (mapOf t .steps)
+        → StepAt t (11 + s .devices * 23 + s .buckets * 9 + s .links * 15 + k * 13) (getD (mapOf t .steps) k noStep)
+    unfolding mapIn layouts sum
+    step-at k l =
+        let b = 11 + s .devices * 23 + s .buckets * 9 + s .links * 15 in
+        record-at 4 b k stepIn (StepAt t (b + k * 13)) (lit< tt) (base-steps (framesIn t) s e in-order-of) l
+        (λ f r. record { step = r .read 0 (lit< tt); count = r .read 1 (lit< tt); ty = r .read 2 (lit< tt); bucket = r .read 3 (lit< tt); room = r .room })
+
+-- the shape's counts are the lengths of the map's lists
+module _ (t : List ℕ) (s : Shape) (e : s ≡ shapeOf (framesIn t)) where
+  -- of devices
+  pub shape-devices : s .devices ≡ length (mapOf t .devices)
+  unfolding shapeOf mapIn
+  shape-devices = rw e (sym (length-map (section 1 (framesIn t)) deviceIn))
+
+  -- of buckets
+  pub shape-buckets : s .buckets ≡ length (mapOf t .buckets)
+  unfolding shapeOf mapIn
+  shape-buckets = rw e (sym (length-map (section 2 (framesIn t)) bucketIn))
+
+  -- of links
+  pub shape-links : s .links ≡ length (mapOf t .links)
+  unfolding shapeOf mapIn
+  shape-links = rw e (sym (length-map (section 3 (framesIn t)) linkIn))
+
+  -- of steps
+  pub shape-steps : s .steps ≡ length (mapOf t .steps)
+  unfolding shapeOf mapIn
+  shape-steps = rw e (sym (length-map (section 4 (framesIn t)) stepIn))
