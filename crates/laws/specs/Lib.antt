@@ -1,6 +1,10 @@
 -- What follows from the definitions, each law once, one file a subject.
 pub mod Lists
+pub mod Counting
+pub mod Members
 pub mod Hash
 pub mod Logarithm
 pub mod Draw
+pub mod Loadable
 pub mod Fuel
+pub mod Forest

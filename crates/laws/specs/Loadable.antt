@@ -1,0 +1,576 @@
+-- What holds of a map that load takes, by its record: how large it is, and that a fitting edit leaves it so. Assumes nothing.
+use mathlib.Core.Path.{_≡_, refl, sym, ap, _∙_}
+use mathlib.Core.Bool.{Bool, true, false, cond, _&&_, _||_}
+use mathlib.Core.Logic.{_⊎_, inl, inr}
+use mathlib.Core.List.{List, _∷_, map}
+use Prim.Native.Nat.{ℕ, zero, suc, _%_, _<_, _≤_}
+use native.Mathlib.Omega.{arith}
+use lib.Dec.{leb, ltb, eqb}
+use lib.ListN.{length, getD, length-map}
+use borrow.Author.Tests.{leb-true, ltb-true, eqb-true, lt-ltb, le-leb}
+use Rattle.definitions.specs.declared.Device.{Device}
+use Rattle.definitions.specs.declared.Bucket.{Bucket}
+use Rattle.definitions.specs.declared.Link.{Link}
+use Rattle.definitions.specs.declared.Action.{Action}
+use Rattle.definitions.specs.declared.Action.the-variants.{Take, Select, Emit, Idle}
+use Rattle.definitions.specs.declared.Standing.{Standing}
+use Rattle.definitions.specs.declared.Standing.the-variants.{Outside, Inside, Broken}
+use Rattle.definitions.specs.declared.Change.{Change}
+use Rattle.definitions.specs.declared.Change.the-variants.{Acceptance, Weight, Malformed}
+use Rattle.definitions.specs.Lists.{every, someOf, linked, sum, firstNo}
+use Rattle.definitions.specs.Map.{Map, isBucket, bucketNumber, actionsOf}
+use Rattle.definitions.specs.View.{childrenOf, bucketType, typeBy, typeOf, acceptanceOf, deviceWeight}
+use Rattle.definitions.specs.Rule.{widths, widthOf}
+use Rattle.definitions.specs.Load.{within, deviceRanged, bucketRanged, linkRanged, stepRanged, ranged, linkBelow, rising, hasDevice, hasBucket, hasItem, takesPresent, present, once, falling, narrow, stand, standing, isOutside, inBlocks, slim, light, mapQuestions, loadable}
+use Rattle.definitions.specs.Edit.{withAcceptance, withWeight, put}
+use Rattle.definitions.specs.Calls.{fits}
+use Rattle.laws.specs.Lists.{both, every-map, every-mono}
+use Rattle.laws.specs.Counting.{distinct-most, distinct-map, rising-bound, sum-bound, every-ext, some-map, linked-map, map-keeps, lookup-keeps, lookup-puts}
+
+-- ---- questions 5 to 13
+
+-- a map of which each question is answered yes
+pub record Loadable (m : Map) : Type 0 where
+  pub ranged : ranged m ≡ true
+  pub rising : rising m ≡ true
+  pub present : present m ≡ true
+  pub once : once m ≡ true
+  pub falling : falling m ≡ true
+  pub narrow : narrow m ≡ true
+  pub inBlocks : inBlocks m ≡ true
+  pub slim : slim m ≡ true
+  pub light : light m ≡ true
+
+first-yes : (n : ℕ) (b : Bool) (qs : List (ℕ × Bool)) → firstNo ((suc n, b) ∷ qs) ≡ 0 → (b ≡ true) × (firstNo qs ≡ 0)
+unfolding firstNo
+first-yes n true qs e = (refl, e)
+first-yes n false qs e = absurd (omega (arith, e))
+
+-- load's answer gives each question's
+pub loadable-is : (m : Map) → loadable m ≡ true → Loadable m
+unfolding loadable mapQuestions
+loadable-is m e =
+    let a = first-yes 4 (ranged m) _ (eqb-true _ _ e) in
+    let b = first-yes 5 (rising m) _ (a .1) in
+    let c = first-yes 6 (present m) _ (b .1) in
+    let d = first-yes 7 (once m) _ (c .1) in
+    let f = first-yes 8 (falling m) _ (d .1) in
+    let g = first-yes 9 (narrow m) _ (f .1) in
+    let h = first-yes 10 (inBlocks m) _ (g .1) in
+    let i = first-yes 11 (slim m) _ (h .1) in
+    let j = first-yes 12 (light m) _ (i .1) in
+    record { ranged = a .0; rising = b .0; present = c .0; once = d .0; falling = f .0; narrow = g .0; inBlocks = h .0; slim = i .0; light = j .0 }
+
+-- and these give load's
+pub is-loadable : (m : Map) → Loadable m → loadable m ≡ true
+unfolding loadable mapQuestions firstNo
+is-loadable m l = rw (l .ranged, l .rising, l .present, l .once, l .falling, l .narrow, l .inBlocks, l .slim, l .light)
+
+-- ---- questions taken apart
+
+within-is : (l h a : ℕ) → within l h a ≡ true → (l ≤ a) × (a ≤ h)
+within-is l h a e = let b = both (leb l a) (leb a h) e in (leb-true l a (b .0), leb-true a h (b .1))
+
+-- what question 5 says of a map
+pub record Ranged (m : Map) : Type 0 where
+  pub least : 1 ≤ m .groups
+  pub most : m .groups ≤ 65536
+  pub devices : every deviceRanged (m .devices) ≡ true
+  pub buckets : every bucketRanged (m .buckets) ≡ true
+  pub links : every linkRanged (m .links) ≡ true
+  pub steps : every stepRanged (m .steps) ≡ true
+
+-- question 5 taken apart
+pub ranged-is : (m : Map) → ranged m ≡ true → Ranged m
+unfolding ranged
+ranged-is m e =
+    let g = within 1 65536 (m .groups) in
+    let d = every deviceRanged (m .devices) in
+    let b = every bucketRanged (m .buckets) in
+    let l = every linkRanged (m .links) in
+    let q4 = both (g && d && b && l) (every stepRanged (m .steps)) e in
+    let q3 = both (g && d && b) l (q4 .0) in
+    let q2 = both (g && d) b (q3 .0) in
+    let q1 = both g d (q2 .0) in
+    let q0 = within-is 1 65536 (m .groups) (q1 .0) in
+    record { least = q0 .0; most = q0 .1; devices = q1 .1; buckets = q2 .1; links = q3 .1; steps = q4 .1 }
+
+-- and put together
+pub is-ranged : (m : Map) → Ranged m → ranged m ≡ true
+unfolding ranged
+is-ranged m r =
+    rw (le-leb 1 (m .groups) (r .least), le-leb (m .groups) 65536 (r .most), r .devices, r .buckets, r .links, r .steps)
+
+-- of a device
+pub record DeviceRanged (d : Device) : Type 0 where
+  pub number : d .number ≤ 1023
+  pub weight : d .weight ≤ 65535
+  pub acceptance : d .acceptance ≤ 65536
+
+-- a device's ranges taken apart
+pub device-ranged : (d : Device) → deviceRanged d ≡ true → DeviceRanged d
+unfolding deviceRanged
+device-ranged d e =
+    let q1 = both (leb (d .number) 1023 && leb (d .weight) 65535) (leb (d .acceptance) 65536) e in
+    let q0 = both (leb (d .number) 1023) (leb (d .weight) 65535) (q1 .0) in
+    record { number = leb-true _ _ (q0 .0); weight = leb-true _ _ (q0 .1); acceptance = leb-true _ _ (q1 .1) }
+
+-- and put together
+pub ranged-device : (d : Device) → DeviceRanged d → deviceRanged d ≡ true
+unfolding deviceRanged
+ranged-device d r = rw (le-leb _ 1023 (r .number), le-leb _ 65535 (r .weight), le-leb _ 65536 (r .acceptance))
+
+-- of a bucket
+pub record BucketRanged (b : Bucket) : Type 0 where
+  pub number : b .number ≤ 255
+  pub least : 1 ≤ b .ty
+  pub most : b .ty ≤ 255
+
+-- a bucket's ranges taken apart
+pub bucket-ranged : (b : Bucket) → bucketRanged b ≡ true → BucketRanged b
+unfolding bucketRanged
+bucket-ranged b e =
+    let q = both (leb (b .number) 255) (within 1 255 (b .ty)) e in
+    let t = within-is 1 255 (b .ty) (q .1) in
+    record { number = leb-true _ _ (q .0); least = t .0; most = t .1 }
+
+-- of a child: a device's item number or a bucket's
+abbrev pub ChildRanged : ℕ → Type 0
+ChildRanged c = (c < 1024) ⊎ ((65536 ≤ c) × (c ≤ 65791))
+
+abbrev childRanged : ℕ → Bool
+childRanged c = ltb c 1024 || within 65536 65791 c
+
+child-ranged : (c : ℕ) → childRanged c ≡ true → ChildRanged c
+child-ranged c e = go (ltb c 1024) refl e
+  where
+    go : (b : Bool) → ltb c 1024 ≡ b → b || within 65536 65791 c ≡ true → ChildRanged c
+    go true h r = inl (ltb-true c 1024 h)
+    go false h r = inr (within-is 65536 65791 c r)
+
+-- of a link
+pub record LinkRanged (l : Link) : Type 0 where
+  pub bucket : l .bucket ≤ 255
+  pub child : ChildRanged (l .child)
+
+-- a link's ranges taken apart
+pub link-ranged : (l : Link) → linkRanged l ≡ true → LinkRanged l
+unfolding linkRanged
+link-ranged l e =
+    let q = both (leb (l .bucket) 255) (childRanged (l .child)) e in
+    record { bucket = leb-true _ _ (q .0); child = child-ranged (l .child) (q .1) }
+
+-- what question 6 says
+pub record Rising (m : Map) : Type 0 where
+  pub devices : linked (λ (d e : Device). ltb (d .number) (e .number)) (m .devices) ≡ true
+  pub buckets : linked (λ (b c : Bucket). ltb (b .number) (c .number)) (m .buckets) ≡ true
+  pub links : linked linkBelow (m .links) ≡ true
+
+-- question 6 taken apart
+pub rising-is : (m : Map) → rising m ≡ true → Rising m
+unfolding rising
+rising-is m e =
+    let d = linked (λ (d e : Device). ltb (d .number) (e .number)) (m .devices) in
+    let b = linked (λ (b c : Bucket). ltb (b .number) (c .number)) (m .buckets) in
+    let q1 = both (d && b) (linked linkBelow (m .links)) e in
+    let q0 = both d b (q1 .0) in
+    record { devices = q0 .0; buckets = q0 .1; links = q1 .1 }
+
+-- and put together
+pub is-rising : (m : Map) → Rising m → rising m ≡ true
+unfolding rising
+is-rising m r = rw (r .devices, r .buckets, r .links)
+
+-- what question 7 says
+pub record Present (m : Map) : Type 0 where
+  pub links : every (λ (l : Link). hasBucket m (l .bucket) && hasItem m (l .child)) (m .links) ≡ true
+  pub takes : every (takesPresent m) (actionsOf m) ≡ true
+
+-- question 7 taken apart
+pub present-is : (m : Map) → present m ≡ true → Present m
+unfolding present
+present-is m e =
+    let q = both (every (λ (l : Link). hasBucket m (l .bucket) && hasItem m (l .child)) (m .links)) (every (takesPresent m) (actionsOf m)) e in
+    record { links = q .0; takes = q .1 }
+
+-- what question 11 says
+pub record InBlocks (m : Map) : Type 0 where
+  pub least : 1 ≤ length (m .steps)
+  pub most : length (m .steps) ≤ 16
+  pub outside : isOutside (standing m (length (m .steps))) ≡ true
+
+-- question 11 taken apart
+pub in-blocks : (m : Map) → inBlocks m ≡ true → InBlocks m
+unfolding inBlocks
+in-blocks m e =
+    let q = both (within 1 16 (length (m .steps))) (isOutside (standing m (length (m .steps)))) e in
+    let s = within-is 1 16 (length (m .steps)) (q .0) in
+    record { least = s .0; most = s .1; outside = q .1 }
+
+-- what question 12 says
+pub record Slim (m : Map) : Type 0 where
+  pub blocks : every (λ (w : ℕ). leb w 16) (widths m) ≡ true
+  pub width : widthOf m ≤ 32
+
+-- question 12 taken apart
+pub slim-is : (m : Map) → slim m ≡ true → Slim m
+unfolding slim
+slim-is m e =
+    let q = both (every (λ (w : ℕ). leb w 16) (widths m)) (leb (widthOf m) 32) e in
+    record { blocks = q .0; width = leb-true _ _ (q .1) }
+
+-- ---- how large a map is
+
+-- at most 1,024 devices
+pub devices-most : (m : Map) → ranged m ≡ true → rising m ≡ true → length (m .devices) ≤ 1024
+devices-most m g r =
+    rising-bound (λ (d : Device). d .number) 1024 (m .devices) (rising-is m r .devices)
+    (every-mono deviceRanged (λ (d : Device). ltb (d .number) 1024) (m .devices)
+    (λ d e. lt-ltb (d .number) 1024 (omega (arith, device-ranged d e .number))) (ranged-is m g .devices))
+
+-- at most 256 buckets
+pub buckets-most : (m : Map) → ranged m ≡ true → rising m ≡ true → length (m .buckets) ≤ 256
+buckets-most m g r =
+    rising-bound (λ (b : Bucket). b .number) 256 (m .buckets) (rising-is m r .buckets)
+    (every-mono bucketRanged (λ (b : Bucket). ltb (b .number) 256) (m .buckets)
+    (λ b e. lt-ltb (b .number) 256 (omega (arith, bucket-ranged b e .number))) (ranged-is m g .buckets))
+
+-- the item numbers of children, made numbers below 1,280: bucket 65,536 becomes 1,024
+abbrev packed : ℕ → ℕ
+packed c = c % 64512
+
+packed-one : (c d : ℕ) → childRanged c ≡ true → childRanged d ≡ true → packed c ≡ packed d → c ≡ d
+packed-one c d p q e = go (child-ranged c p) (child-ranged d q)
+  where
+    go : ChildRanged c → ChildRanged d → c ≡ d
+    go (inl a) (inl b) = omega arith
+    go (inl a) (inr b) = omega arith
+    go (inr a) (inl b) = omega arith
+    go (inr a) (inr b) = omega arith
+
+packed-small : (c : ℕ) → childRanged c ≡ true → ltb (packed c) 1280 ≡ true
+packed-small c e = lt-ltb (packed c) 1280 (go (child-ranged c e))
+  where
+    go : ChildRanged c → packed c < 1280
+    go (inl a) = omega arith
+    go (inr a) = omega arith
+
+-- at most 1,280 links, one for each item
+pub links-most : (m : Map) → ranged m ≡ true → once m ≡ true → length (m .links) ≤ 1280
+unfolding once linkRanged
+links-most m g o =
+    let cs = map (λ (l : Link). l .child) (m .links) in
+    let e : every childRanged cs ≡ true = every-map childRanged (λ (l : Link). l .child) (m .links)
+    ∙ every-mono linkRanged (λ (l : Link). childRanged (l .child)) (m .links) (λ l h. both (leb (l .bucket) 255) (childRanged (l .child)) h .1) (ranged-is m g .links) in
+    omega (arith, distinct-most packed 1280 cs (distinct-map childRanged packed packed-one cs e o) (every-mono childRanged (λ (c : ℕ). ltb (packed c) 1280) cs packed-small e), length-map (m .links) (λ (l : Link). l .child))
+
+-- how large a loadable map is at most
+pub record Bounds (m : Map) : Type 0 where
+  pub devices : length (m .devices) ≤ 1024
+  pub buckets : length (m .buckets) ≤ 256
+  pub links : length (m .links) ≤ 1280
+  pub steps : length (m .steps) ≤ 16
+
+-- and that it is no larger
+pub bounds : (m : Map) → Loadable m → Bounds m
+bounds m l =
+    record {
+      devices = devices-most m (l .ranged) (l .rising);
+      buckets = buckets-most m (l .ranged) (l .rising);
+      links = links-most m (l .ranged) (l .once);
+      steps = in-blocks m (l .inBlocks) .most;
+    }
+
+-- question 13 follows from 5 and 6
+pub light-always : (m : Map) → ranged m ≡ true → rising m ≡ true → light m ≡ true
+unfolding light
+light-always m g r =
+    let e : every (λ (d : Device). leb (d .weight) 65535) (m .devices) ≡ true = every-mono deviceRanged (λ (d : Device). leb (d .weight) 65535) (m .devices)
+    (λ d h. le-leb (d .weight) 65535 (device-ranged d h .weight)) (ranged-is m g .devices) in
+    le-leb (sum (map (λ (d : Device). d .weight) (m .devices))) 67107840
+    (omega (arith, sum-bound (λ (d : Device). d .weight) 65535 (m .devices) e, devices-most m g r))
+
+-- ---- what an edit leaves as it is, fitting or not
+
+-- the devices' numbers
+abbrev pub numbers : Map → List ℕ
+numbers m = map (λ (d : Device). d .number) (m .devices)
+
+cond-ap : {A B : Type 0} (f : A → B) (b : Bool) (x y : A) → f (cond b x y) ≡ cond b (f x) (f y)
+cond-ap f true x y = refl
+cond-ap f false x y = refl
+
+cond-keeps : {A B : Type 0} (f : A → B) (b : Bool) (x y : A) → f x ≡ f y → f (cond b x y) ≡ f y
+cond-keeps f true x y e = e
+cond-keeps f false x y e = refl
+
+abbrev number : Device → ℕ
+number d = d .number
+
+abbrev weight : Device → ℕ
+weight d = d .weight
+
+abbrev acceptance : Device → ℕ
+acceptance d = d .acceptance
+
+abbrev accepting : ℕ → Device → Device
+accepting a e = record { number = e .number; weight = e .weight; acceptance = a }
+
+abbrev weighing : ℕ → Device → Device
+weighing w e = record { number = e .number; weight = w; acceptance = e .acceptance }
+
+keeps-accepting : (d a : ℕ) (e : Device) → withAcceptance d a e .number ≡ e .number
+keeps-accepting d a e = cond-keeps number (eqb (e .number) d) (accepting a e) e refl
+
+keeps-weighing : (d w : ℕ) (e : Device) → withWeight d w e .number ≡ e .number
+keeps-weighing d w e = cond-keeps number (eqb (e .number) d) (weighing w e) e refl
+
+module _ (m : Map) where
+  -- the groups
+  pub put-groups : (c : Change) → put m c .groups ≡ m .groups
+  unfolding put
+  put-groups (Acceptance d a) = refl
+  put-groups (Weight d w) = refl
+  put-groups Malformed = refl
+
+  -- the buckets
+  pub put-buckets : (c : Change) → put m c .buckets ≡ m .buckets
+  unfolding put
+  put-buckets (Acceptance d a) = refl
+  put-buckets (Weight d w) = refl
+  put-buckets Malformed = refl
+
+  -- the links
+  pub put-links : (c : Change) → put m c .links ≡ m .links
+  unfolding put
+  put-links (Acceptance d a) = refl
+  put-links (Weight d w) = refl
+  put-links Malformed = refl
+
+  -- the steps
+  pub put-steps : (c : Change) → put m c .steps ≡ m .steps
+  unfolding put
+  put-steps (Acceptance d a) = refl
+  put-steps (Weight d w) = refl
+  put-steps Malformed = refl
+
+  -- the devices' numbers
+  pub put-numbers : (c : Change) → numbers (put m c) ≡ numbers m
+  unfolding put
+  put-numbers (Acceptance d a) = map-keeps (λ (e : Device). e .number) (withAcceptance d a) (keeps-accepting d a) (m .devices)
+  put-numbers (Weight d w) = map-keeps (λ (e : Device). e .number) (withWeight d w) (keeps-weighing d w) (m .devices)
+  put-numbers Malformed = refl
+
+module _ (m : Map) (c : Change) where
+  -- how many devices there are
+  pub put-length : length (put m c .devices) ≡ length (m .devices)
+  put-length =
+      sym (length-map (put m c .devices) (λ (d : Device). d .number))
+      ∙ ap (λ (ns : List ℕ). length ns) (put-numbers m c)
+      ∙ length-map (m .devices) (λ (d : Device). d .number)
+
+  -- which devices there are
+  pub put-has-device : (d : ℕ) → hasDevice (put m c) d ≡ hasDevice m d
+  unfolding hasDevice
+  put-has-device d =
+      sym (some-map (λ (n : ℕ). eqb n d) (λ (e : Device). e .number) (put m c .devices))
+      ∙ ap (λ (ns : List ℕ). someOf (λ (n : ℕ). eqb n d) ns) (put-numbers m c)
+      ∙ some-map (λ (n : ℕ). eqb n d) (λ (e : Device). e .number) (m .devices)
+
+  -- which buckets there are
+  pub put-has-bucket : (b : ℕ) → hasBucket (put m c) b ≡ hasBucket m b
+  unfolding hasBucket
+  put-has-bucket b = rw (put-buckets m c)
+
+  -- which items there are
+  pub put-has-item : (i : ℕ) → hasItem (put m c) i ≡ hasItem m i
+  unfolding hasItem
+  put-has-item i = rw (put-has-bucket (bucketNumber i), put-has-device i)
+
+  -- a bucket's type
+  pub put-bucket-type : (b : ℕ) → bucketType (put m c) b ≡ bucketType m b
+  unfolding bucketType
+  put-bucket-type b = rw (put-buckets m c)
+
+  -- an item's type
+  pub put-type : (i : ℕ) → typeOf (put m c) i ≡ typeOf m i
+  unfolding typeOf typeBy
+  put-type i = go (isBucket i)
+    where
+      go : (b : Bool) → typeBy (put m c) i b ≡ typeBy m i b
+      go true = put-bucket-type (bucketNumber i)
+      go false = refl
+
+  -- a bucket's children
+  pub put-children : (b : ℕ) → childrenOf (put m c) b ≡ childrenOf m b
+  unfolding childrenOf
+  put-children b = rw (put-links m c)
+
+  -- what the steps do
+  pub put-actions : actionsOf (put m c) ≡ actionsOf m
+  unfolding actionsOf
+  put-actions = rw (put-steps m c)
+
+  -- the blocks' widths
+  pub put-widths : widths (put m c) ≡ widths m
+  unfolding widths
+  put-widths = rw put-actions
+
+  -- the width
+  pub put-width : widthOf (put m c) ≡ widthOf m
+  unfolding widthOf
+  put-width = rw put-widths
+
+  -- where a step leads
+  pub put-stand : (s : Standing) (a : Action) → stand (put m c) s a ≡ stand m s a
+  unfolding stand
+  put-stand Outside (Take b) = ap Inside (put-bucket-type b)
+  put-stand Outside (Select mode n t) = refl
+  put-stand Outside Emit = refl
+  put-stand Outside Idle = refl
+  put-stand (Inside u) (Take b) = refl
+  put-stand (Inside u) (Select mode n t) = refl
+  put-stand (Inside u) Emit = refl
+  put-stand (Inside u) Idle = refl
+  put-stand Broken a = refl
+
+  -- where the rule stands
+  pub put-standing : (k : ℕ) → standing (put m c) k ≡ standing m k
+  unfolding standing
+  put-standing zero = refl
+  put-standing (suc k) = rw (put-standing k, put-actions) (put-stand (standing m k) (getD (actionsOf m) k Idle))
+
+  -- whether what a step takes is present
+  pub put-takes : (a : Action) → takesPresent (put m c) a ≡ takesPresent m a
+  unfolding takesPresent
+  put-takes (Take b) = put-has-bucket b
+  put-takes (Select mode n t) = refl
+  put-takes Emit = refl
+  put-takes Idle = refl
+
+  -- question 6
+  pub put-rising : rising (put m c) ≡ rising m
+  unfolding rising
+  put-rising =
+      rw
+      (put-buckets m c, put-links m c, ← linked-map ltb (λ (d : Device). d .number) (put m c .devices), put-numbers m c, linked-map ltb (λ (d : Device). d .number) (m .devices))
+
+  -- question 7
+  pub put-present : present (put m c) ≡ present m
+  unfolding present
+  put-present =
+      rw (every-ext (takesPresent (put m c)) (takesPresent m) (actionsOf (put m c)) put-takes, put-actions)
+      (simp (put-has-bucket, put-has-item, put-links m c))
+
+  -- question 8
+  pub put-once : once (put m c) ≡ once m
+  unfolding once
+  put-once = rw (put-links m c)
+
+  -- question 9
+  pub put-falling : falling (put m c) ≡ falling m
+  unfolding falling
+  put-falling = simp (put-links m c, put-type, put-bucket-type)
+
+  -- question 10
+  pub put-narrow : narrow (put m c) ≡ narrow m
+  unfolding narrow
+  put-narrow = simp (put-buckets m c, put-children)
+
+  -- question 11
+  pub put-in-blocks : inBlocks (put m c) ≡ inBlocks m
+  unfolding inBlocks
+  put-in-blocks = rw (put-standing (length (put m c .steps)), put-steps m c)
+
+  -- question 12
+  pub put-slim : slim (put m c) ≡ slim m
+  unfolding slim
+  put-slim = rw (put-widths, put-width)
+
+-- ---- an edit that fits
+
+accepting-ranged : (d a : ℕ) → a ≤ 65536 → (e : Device) → deviceRanged e ≡ true → deviceRanged (withAcceptance d a e) ≡ true
+accepting-ranged d a h e r =
+    let q = device-ranged e r in
+    let s = ranged-device (accepting a e) (record { number = q .number; weight = q .weight; acceptance = h }) in
+    cond-keeps deviceRanged (eqb (e .number) d) (accepting a e) e (s ∙ sym r) ∙ r
+
+weighing-ranged : (d w : ℕ) → w ≤ 65535 → (e : Device) → deviceRanged e ≡ true → deviceRanged (withWeight d w e) ≡ true
+weighing-ranged d w h e r =
+    let q = device-ranged e r in
+    let s = ranged-device (weighing w e) (record { number = q .number; weight = h; acceptance = q .acceptance }) in
+    cond-keeps deviceRanged (eqb (e .number) d) (weighing w e) e (s ∙ sym r) ∙ r
+
+devices-ranged : (m : Map) (c : Change) → fits m c ≡ true → every deviceRanged (m .devices) ≡ true → every deviceRanged (put m c .devices) ≡ true
+unfolding fits put
+devices-ranged m (Acceptance d a) f e =
+    every-map deviceRanged (withAcceptance d a) (m .devices)
+    ∙ every-mono deviceRanged (λ (x : Device). deviceRanged (withAcceptance d a x)) (m .devices)
+    (accepting-ranged d a (leb-true a 65536 (both (hasDevice m d) (leb a 65536) f .1))) e
+devices-ranged m (Weight d w) f e =
+    every-map deviceRanged (withWeight d w) (m .devices)
+    ∙ every-mono deviceRanged (λ (x : Device). deviceRanged (withWeight d w x)) (m .devices)
+    (weighing-ranged d w (leb-true w 65535 (both (hasDevice m d) (leb w 65535) f .1))) e
+devices-ranged m Malformed f e = e
+
+-- question 5 is answered yes after a fitting edit
+pub put-ranged : (m : Map) (c : Change) → fits m c ≡ true → ranged m ≡ true → ranged (put m c) ≡ true
+put-ranged m c f e =
+    let r = ranged-is m e in
+    is-ranged (put m c)
+    (record {
+      least = rw (put-groups m c) (r .least);
+      most = rw (put-groups m c) (r .most);
+      devices = devices-ranged m c f (r .devices);
+      buckets = rw (put-buckets m c) (r .buckets);
+      links = rw (put-links m c) (r .links);
+      steps = rw (put-steps m c) (r .steps);
+    })
+
+-- a fitting edit leaves a loadable map
+pub put-loadable : (m : Map) (c : Change) → Loadable m → fits m c ≡ true → Loadable (put m c)
+put-loadable m c l f =
+    let g = put-ranged m c f (l .ranged) in
+    let r = put-rising m c ∙ l .rising in
+    record {
+      ranged = g;
+      rising = r;
+      present = put-present m c ∙ l .present;
+      once = put-once m c ∙ l .once;
+      falling = put-falling m c ∙ l .falling;
+      narrow = put-narrow m c ∙ l .narrow;
+      inBlocks = put-in-blocks m c ∙ l .inBlocks;
+      slim = put-slim m c ∙ l .slim;
+      light = light-always (put m c) g r;
+    }
+
+-- ---- what an edit changes
+
+module _ (m : Map) (d v : ℕ) where
+  -- an edit of an acceptance changes that of d alone
+  pub put-acceptance : hasDevice m d ≡ true → (e : ℕ) → acceptanceOf (put m (Acceptance d v)) e ≡ cond (eqb e d) v (acceptanceOf m e)
+  unfolding hasDevice acceptanceOf put
+  put-acceptance h e =
+      lookup-puts (λ (x : Device). x .number) (λ (x : Device). x .acceptance) (withAcceptance d v) (keeps-accepting d v) d v
+      (λ x. cond-ap acceptance (eqb (x .number) d) (accepting v x) x) (m .devices) h e
+
+  -- and no device's weight
+  pub acceptance-leaves-weight : (e : ℕ) → deviceWeight (put m (Acceptance d v)) e ≡ deviceWeight m e
+  unfolding deviceWeight put
+  acceptance-leaves-weight e =
+      lookup-keeps (λ (x : Device). x .number) (λ (x : Device). x .weight) (withAcceptance d v) (keeps-accepting d v)
+      (λ x. cond-keeps weight (eqb (x .number) d) (accepting v x) x refl) e (m .devices)
+
+  -- an edit of a weight changes that of d alone
+  pub put-weight : hasDevice m d ≡ true → (e : ℕ) → deviceWeight (put m (Weight d v)) e ≡ cond (eqb e d) v (deviceWeight m e)
+  unfolding hasDevice deviceWeight put
+  put-weight h e =
+      lookup-puts (λ (x : Device). x .number) (λ (x : Device). x .weight) (withWeight d v) (keeps-weighing d v) d v
+      (λ x. cond-ap weight (eqb (x .number) d) (weighing v x) x) (m .devices) h e
+
+  -- and no device's acceptance
+  pub weight-leaves-acceptance : (e : ℕ) → acceptanceOf (put m (Weight d v)) e ≡ acceptanceOf m e
+  unfolding acceptanceOf put
+  weight-leaves-acceptance e =
+      lookup-keeps (λ (x : Device). x .number) (λ (x : Device). x .acceptance) (withWeight d v) (keeps-weighing d v)
+      (λ x. cond-keeps acceptance (eqb (x .number) d) (weighing v x) x refl) e (m .devices)
