@@ -57,7 +57,7 @@ module _ (v : View) (x t r : ℕ) where
   onDrawn go b Nothing = landing r b Nothing
 
   -- the descent from bucket b, whose type is at most k. The bucket drawn has a smaller type (question 9), so k does not run out, and more
-  -- than the type changes nothing (`descend-enough`, crate laws).
+  -- than the type changes nothing (`sinks` and `descend-enough`, crate laws).
   unfoldable pub descendIn : ℕ → ℕ → Descent
   descendIn zero b = landing r b Nothing
   descendIn (suc k) b = onDrawn (descendIn k) b (drawAt v x r b)

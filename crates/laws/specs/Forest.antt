@@ -16,17 +16,19 @@ use Rattle.definitions.specs.declared.Change.{Change}
 use Rattle.definitions.specs.declared.Change.the-variants.{Acceptance, Weight, Malformed}
 use Rattle.definitions.specs.declared.Drawn.the-variants.{Winner}
 use Rattle.definitions.specs.Lists.{kept, lookup, sum, distinct}
+use Rattle.definitions.specs.Hash.{S}
 use Rattle.definitions.specs.Straw.{drawOf}
 use Rattle.definitions.specs.Map.{Map, bucketItem, isBucket, bucketNumber}
-use Rattle.definitions.specs.View.{childrenOf, bucketType, typeBy, typeOf, deviceWeight, weightBy, weightIn, weightOf, weightsOf}
+use Rattle.definitions.specs.View.{childrenOf, bucketType, typeBy, typeOf, deviceWeight, weightBy, weightIn, weightOf, weightsOf, viewOf}
+use Rattle.definitions.specs.Walk.{drawAt}
 use Rattle.definitions.specs.Load.{hasDevice, once, falling, light}
 use Rattle.definitions.specs.Edit.{put}
 use Rattle.laws.specs.Lists.{getD-mapped}
 use Rattle.laws.specs.Counting.{distinct-kept, distinct-tail}
 use Rattle.laws.specs.Members.{mem-every, mem-kept, mem-at, not-again, one-member, map-ext}
-use Rattle.laws.specs.Draw.{draw-law}
+use Rattle.laws.specs.Draw.{draw-law, winner-child}
 use Rattle.laws.specs.Loadable.{Loadable, put-type, put-children, put-weight, acceptance-leaves-weight}
-use Rattle.laws.specs.Fuel.{weight-enough}
+use Rattle.laws.specs.Fuel.{weight-enough, Sinks}
 
 -- ---- forests
 
@@ -428,3 +430,14 @@ draw-child m L d v w R seed x r b =
     let (c, k, h, q) = t in
     ⊎-elim (λ e. inl e) (λ e. inr (c, k, h, e)) (draw-law seed x r c (childrenOf m b) (map v (childrenOf m b)) (map w (childrenOf m b)) q))
     (children-heavier m L d v w R b)
+
+-- in a loadable map each draw goes down, so no descent is what it is because its fuel ran out (`Fuel.descend-enough`)
+pub sinks : (m : Map) → Loadable m → Sinks (viewOf m)
+unfolding viewOf drawAt
+sinks m L =
+    record {
+      drawn = λ x r b i e.
+          let (n, h, q, p) = winner-child S x r (childrenOf m b) (weightsOf m b) i e in
+          forest m L .falls (bucketItem b) i (rw (kids-bucket m b, ← q) (mem-at 0 (childrenOf m b) n h));
+      device = type-device m;
+    }
