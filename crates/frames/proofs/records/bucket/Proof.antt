@@ -1,0 +1,63 @@
+-- `frames::records::bucket` meets its contract: the two fields stand where they are read, and the line is within the text. Assumes nothing.
+use mathlib.Core.Path.{_≡_, _∙_}
+use Prim.Native.Nat.{ℕ, _+_, _*_}
+use native.Mathlib.Omega.{arith}
+use lib.ListN.{getD}
+use Rattle.definitions.specs.declared.Bucket.{Bucket}
+use Rattle.definitions.specs.Map.{mapOf}
+use Rattle.text.specs.Records.{noBucket, BucketAt, bucket-at}
+use Rattle.frames.proofs.records.bucket.Statement.{statement}
+use Rattle.frames.proofs.records.bucket.Tie as tie
+
+-- where the line of bucket k stands
+here : (s : tie.Start)
+    → BucketAt (s .args .t .now) (11 + s .args .s .devices * 23 + s .args .k * 9) (getD (mapOf (s .args .t .now) .buckets) (s .args .k) noBucket)
+here s = bucket-at (s .args .t .now) (s .pre .0) (s .args .s) (s .pre .1) (s .args .k) (s .pre .2)
+
+-- two fields are a bucket
+same : (d : Bucket) (a b : ℕ) → a ≡ d .number → b ≡ d .ty
+    → _≡_ {A = Bucket} (record { number = a; ty = b }) d
+same d a b p q = rw (p, q)
+
+mul-at : tie.Need-mul-at
+mul-at c = let s = c .before .before in omega (arith, here s .room, s .good .0)
+
+add-at : tie.Need-add-at
+add-at c = let s = c .before .before in omega (arith, here s .room, s .good .0)
+
+mul-at-2 : tie.Need-mul-at-2
+mul-at-2 c = let s = c .before .before in omega (arith, here s .room, s .good .0)
+
+add-at-2 : tie.Need-add-at-2
+add-at-2 c = let s = c .before .before in omega (arith, here s .room, s .good .0)
+
+add-field : tie.Need-add-field
+add-field c = let s = c .before .before in omega (arith, here s .room, s .good .0)
+
+field-requires : tie.Need-field-requires
+field-requires c κs = omega (arith, here (c .before .before) .room)
+
+add-field-2 : tie.Need-add-field-2
+add-field-2 c = let s = c .before .before .before in omega (arith, here s .room, s .good .0)
+
+field-requires-2 : tie.Need-field-requires-2
+field-requires-2 c κs = omega (arith, here (c .before .before .before) .room)
+
+returns : tie.Need-returns
+returns c =
+    let h = here (c .before .before .before .before) in
+    same _ _ _ (c .before .field .ensures ∙ h .number) (c .field2 .ensures ∙ h .ty)
+
+pub bucket-spec : {M : Type 1} → statement M
+bucket-spec =
+    tie.close
+    (tie.spec
+    mul-at
+    add-at
+    mul-at-2
+    add-at-2
+    add-field
+    field-requires
+    add-field-2
+    field-requires-2
+    returns)

@@ -1,0 +1,79 @@
+// The edit frame: what it asks for, the device it names, and the change written into the text.
+ghost use mathlib.Core.Path.{_≡_};
+ghost use Prim.Native.Nat.{_<_};
+ghost use lib.ListN.{length, getD};
+ghost use Rattle.definitions.specs.Map.{mapOf};
+ghost use Rattle.definitions.specs.Edit.{changeOf};
+ghost use Rattle.text.specs.RoundTrip.{Framed};
+ghost use Rattle.text.specs.Records.{noDevice};
+ghost use Rattle.text.specs.Edit.{withDevice, accepting, weighing, Edited};
+ghost use Rattle.frames.specs.Found.{FoundIs};
+use crate::digits;
+use crate::records;
+use definitions::Change;
+
+// Where a device stands among the devices.
+pub enum Found {
+    At(usize),
+    Missing,
+}
+
+// What the bytes of a frame ask for, with no byte 10 behind them.
+pub fn change_of(f: &[u8]) -> Change
+    ensures { λ r. ⌜ r ≡ changeOf (now (f .entry)) ⌝ }
+{
+    if f.len() != 14 {
+        return Change::Malformed;
+    }
+    if !digits::all_digits(f) {
+        return Change::Malformed;
+    }
+    let kind = digits::field(f, 0, 2);
+    let device = digits::field(f, 2, 4);
+    let value = digits::field(f, 6, 8);
+    if kind == 0x21 {
+        return Change::Acceptance(device, value);
+    }
+    if kind == 0x22 {
+        return Change::Weight(device, value);
+    }
+    Change::Malformed
+}
+
+// Where device d stands among the n devices of a text that the first four questions take.
+pub fn find_device(t: &[u8], n: usize, d: u32) -> Found
+    requires { ⌜ Framed (now t) × (n ≡ length (mapOf (now t) .devices)) ⌝ }
+    ensures { λ r. ⌜ FoundIs (mapOf (now (t .entry))) d r ⌝ }
+{
+    let mut k: usize = 0;
+    while k < n {
+        let e = records::device(t, k);
+        if e.number == d {
+            return Found::At(k);
+        }
+        k += 1;
+    }
+    Found::Missing
+}
+
+// Makes v the acceptance of device k: its eight digits are written over, and all other bytes stay.
+pub fn put_acceptance(t: &mut [u8], k: usize, v: u32)
+    requires { ⌜ Framed (now t) × (k < length (mapOf (now t) .devices)) ⌝ }
+    ensures { λ _. ⌜ Edited (now (t .exit))
+        (withDevice k (accepting (getD (mapOf (now (t .entry)) .devices) k noDevice) v) (mapOf (now (t .entry)))) ⌝ }
+{
+    let a = 11 + k * 23 + 14;
+    let e = a + 8;
+    digits::put_field(&mut t[a..e], v);
+}
+
+// Makes v the weight of device k, in the same way.
+pub fn put_weight(t: &mut [u8], k: usize, v: u32)
+    requires { ⌜ Framed (now t) × (k < length (mapOf (now t) .devices)) ⌝ }
+    ensures { λ _. ⌜ Edited (now (t .exit))
+        (withDevice k (weighing (getD (mapOf (now (t .entry)) .devices) k noDevice) v) (mapOf (now (t .entry)))) ⌝ }
+{
+    let a = 11 + k * 23 + 6;
+    let e = a + 8;
+    digits::put_field(&mut t[a..e], v);
+}

@@ -1,0 +1,75 @@
+// The records of a text that the first four questions take, each read at its place. Such a text has its frames in order of kind, so the
+// counts in a Shape give the place of each.
+ghost use mathlib.Core.Path.{_≡_};
+ghost use Prim.Native.Nat.{_<_};
+ghost use lib.ListN.{length, getD};
+ghost use Rattle.definitions.specs.Frames.{framesIn};
+ghost use Rattle.definitions.specs.Map.{mapOf};
+ghost use Rattle.text.specs.Shape.{shapeOf};
+ghost use Rattle.text.specs.RoundTrip.{Framed};
+ghost use Rattle.text.specs.Records.{noDevice, noBucket, noLink, noStep};
+use crate::digits;
+use definitions::Bucket;
+use definitions::Device;
+use definitions::Link;
+use definitions::Step;
+use text::Shape;
+
+// The count of groups.
+pub fn groups(t: &[u8]) -> u32
+    requires { ⌜ Framed (now t) ⌝ }
+    ensures { λ r. ⌜ r ≡ mapOf (now (t .entry)) .groups ⌝ }
+{
+    digits::field(t, 2, 8)
+}
+
+// Device k.
+pub fn device(t: &[u8], k: usize) -> Device
+    requires { ⌜ Framed (now t) × (k < length (mapOf (now t) .devices)) ⌝ }
+    ensures { λ r. ⌜ r ≡ getD (mapOf (now (t .entry)) .devices) k noDevice ⌝ }
+{
+    let at = 11 + k * 23;
+    Device {
+        number: digits::field(t, at + 2, 4),
+        weight: digits::field(t, at + 6, 8),
+        acceptance: digits::field(t, at + 14, 8),
+    }
+}
+
+// Bucket k.
+pub fn bucket(t: &[u8], s: Shape, k: usize) -> Bucket
+    requires { ⌜ Framed (now t) × (s ≡ shapeOf (framesIn (now t))) × (k < length (mapOf (now t) .buckets)) ⌝ }
+    ensures { λ r. ⌜ r ≡ getD (mapOf (now (t .entry)) .buckets) k noBucket ⌝ }
+{
+    let at = 11 + s.devices * 23 + k * 9;
+    Bucket {
+        number: digits::field(t, at + 2, 4),
+        ty: digits::field(t, at + 6, 2),
+    }
+}
+
+// Link k.
+pub fn link(t: &[u8], s: Shape, k: usize) -> Link
+    requires { ⌜ Framed (now t) × (s ≡ shapeOf (framesIn (now t))) × (k < length (mapOf (now t) .links)) ⌝ }
+    ensures { λ r. ⌜ r ≡ getD (mapOf (now (t .entry)) .links) k noLink ⌝ }
+{
+    let at = 11 + s.devices * 23 + s.buckets * 9 + k * 15;
+    Link {
+        bucket: digits::field(t, at + 2, 4),
+        child: digits::field(t, at + 6, 8),
+    }
+}
+
+// Step k.
+pub fn step(t: &[u8], s: Shape, k: usize) -> Step
+    requires { ⌜ Framed (now t) × (s ≡ shapeOf (framesIn (now t))) × (k < length (mapOf (now t) .steps)) ⌝ }
+    ensures { λ r. ⌜ r ≡ getD (mapOf (now (t .entry)) .steps) k noStep ⌝ }
+{
+    let at = 11 + s.devices * 23 + s.buckets * 9 + s.links * 15 + k * 13;
+    Step {
+        step: digits::field(t, at + 2, 2),
+        count: digits::field(t, at + 4, 2),
+        ty: digits::field(t, at + 6, 2),
+        bucket: digits::field(t, at + 8, 4),
+    }
+}
