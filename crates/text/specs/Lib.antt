@@ -12,3 +12,4 @@ pub mod RoundTrip
 pub mod Records
 pub mod Edit
 pub mod Loading
+pub mod Agreement
