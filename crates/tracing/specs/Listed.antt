@@ -8,8 +8,8 @@ use Prim.Native.Nat.{ℕ, zero, suc, _+_, _-_, _*_, _<_, _≤_}
 use native.Mathlib.Nat.{eq-or-lt-of-le, mul-le-mul-right}
 use native.Mathlib.Decide.{decLt}
 use native.Mathlib.Omega.{arith}
-use lib.ListN.{length, getD, drop, length-append, length-map, List·getD-append, List·getD-eq-default}
-use lib.Seq.{drop-cons, drop-length, getD-append-add}
+use lib.ListN.{length, getD, take, drop, length-append, length-drop, length-map, List·getD-append, List·getD-eq-default}
+use lib.Seq.{drop-cons, drop-length, getD-append-add, drop-at, take-all, drop-append-le, take-append-le}
 use Rattle.definitions.specs.declared.Mode.the-variants.{FirstN, Independent}
 use Rattle.definitions.specs.declared.Action.{Action}
 use Rattle.definitions.specs.declared.Action.the-variants.{Take, Select, Emit, Idle}
@@ -238,13 +238,14 @@ unfoldable pub entryAt : Map → ℕ → ℕ → ℕ
 entryAt m g j = getD (tableOf m) (g * widthOf m + j) 0
 
 -- one row more
-table-more : (rs : List Placed) (r : Placed) → tableIn (rs ++ (r ∷ [])) ≡ tableIn rs ++ rowIn r
+pub table-more : (rs : List Placed) (r : Placed) → tableIn (rs ++ (r ∷ [])) ≡ tableIn rs ++ rowIn r
 unfolding tableIn joined
 table-more [] r = append-nil (rowIn r)
 table-more (a ∷ rs) r = ap (λ (l : List ℕ). rowIn a ++ l) (table-more rs r) ∙ sym (append-assoc (rowIn a) (tableIn rs) (rowIn r))
 
 module _ (m : Map) (L : Loadable m) (ind : independent m ≡ true) where
-  row-width : (g : ℕ) → length (rowIn (placedOf m g)) ≡ widthOf m
+  -- a row is W places
+  pub row-width : (g : ℕ) → length (rowIn (placedOf m g)) ≡ widthOf m
   unfolding rowIn entriesOf
   row-width g = length-map (placedOf m g .places) (λ (a : Place). a .entry) ∙ placed-width m g L ind
 
@@ -255,11 +256,27 @@ module _ (m : Map) (L : Loadable m) (ind : independent m ≡ true) where
   unfolding runsTo
   more n = table-more (runsTo m n) (placedOf m n)
 
-  table-width : (n : ℕ) → length (tableTo n) ≡ n * widthOf m
+  -- n rows are n × W places
+  pub table-width : (n : ℕ) → length (tableIn (runsTo m n)) ≡ n * widthOf m
   unfolding runsTo tableIn joined
   table-width zero = omega arith
   table-width (suc n) =
       ap length (more n) ∙ length-append (tableTo n) (rowIn (placedOf m n)) ∙ omega (arith, table-width n, row-width n)
+
+  -- row g of the table is the list of group g
+  pub table-row : (n g : ℕ) → g < n → take (widthOf m) (drop (g * widthOf m) (tableIn (runsTo m n))) ≡ rowIn (placedOf m g)
+  table-row zero g h = absurd (omega arith)
+  table-row (suc n) g h =
+      let w = widthOf m in
+      ap (λ (l : List ℕ). take w (drop (g * w) l)) (more n)
+      ∙ ⊎-elim
+      (λ (e : g ≡ n).
+      rw (e, drop-at (tableTo n) (rowIn (placedOf m n)) (n * w) (table-width n)) (take-all w (rowIn (placedOf m n)) (omega (arith, row-width n))))
+      (λ (k : g < n).
+      let room : g * w + w ≤ length (tableTo n) = omega (arith, table-width n, mul-le-mul-right w k) in
+      rw (drop-append-le (g * w) (tableTo n) (rowIn (placedOf m n)) (omega arith))
+      (take-append-le w (drop (g * w) (tableTo n)) (rowIn (placedOf m n)) (omega (arith, length-drop (g * w) (tableTo n))) ∙ table-row n g k))
+      (eq-or-lt-of-le (omega arith))
 
   row-entry : (g j : ℕ) → j < widthOf m → getD (rowIn (placedOf m g)) j 0 ≡ getD (placedOf m g .places) j nowhere .entry
   unfolding rowIn entriesOf

@@ -1,0 +1,59 @@
+-- `blocks::independent::not_first_n` meets its contract: each arm is a case of `notFirstN`. Assumes nothing.
+use Rattle.definitions.specs.Calls.{notFirstN}
+use borrow.Author.Needs.{needs}
+use Rattle.blocks.proofs.independent.not_first_n.Statement.{statement}
+use Rattle.blocks.proofs.independent.not_first_n.Tie as tie
+
+enum-known-a : tie.Need-enum-known-a
+enum-known-a c = search needs
+
+enum-told : tie.Need-enum-told
+enum-told c = search needs
+
+enum-told-2 : tie.Need-enum-told-2
+enum-told-2 c = search needs
+
+enum-told-3 : tie.Need-enum-told-3
+enum-told-3 c = search needs
+
+enum-told-4 : tie.Need-enum-told-4
+enum-told-4 c = search needs
+
+enum-told-5 : tie.Need-enum-told-5
+enum-told-5 c = search needs
+
+returns : tie.Need-returns
+unfolding notFirstN
+returns c = cc
+
+returns-2 : tie.Need-returns-2
+unfolding notFirstN
+returns-2 c = cc
+
+returns-3 : tie.Need-returns-3
+unfolding notFirstN
+returns-3 c = simp (c .enum-told3 .given .1)
+
+returns-4 : tie.Need-returns-4
+unfolding notFirstN
+returns-4 c = simp (c .enum-told4 .given .1)
+
+returns-5 : tie.Need-returns-5
+unfolding notFirstN
+returns-5 c = simp (c .enum-told5 .given .1)
+
+pub not-first-n-spec : {M : Type 1} → statement M
+not-first-n-spec =
+    tie.close
+    (tie.spec
+    enum-known-a
+    enum-told
+    enum-told-2
+    enum-told-3
+    enum-told-4
+    enum-told-5
+    returns
+    returns-2
+    returns-3
+    returns-4
+    returns-5)

@@ -1,0 +1,5 @@
+// The rule of a map's text: what its steps do, and the questions about them.
+pub mod actions;
+pub mod independent;
+pub mod standing;
+pub mod widths;

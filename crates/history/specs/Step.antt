@@ -1,0 +1,161 @@
+-- What one call of edit does, by its definition, to a map that load takes and a table that is its fresh fill: a refusal alters nothing, and
+-- a good edit leaves such a map and such a table again. Assumes nothing.
+use mathlib.Core.Path.{_≡_, refl, sym, ap, _∙_, subst}
+use mathlib.Core.Bool.{Bool, true, false, cond, _&&_}
+use mathlib.Core.Logic.{_⊎_, inl, inr, ⊎-elim}
+use mathlib.Core.List.{List, [], _∷_, _++_, map}
+use Prim.Native.Nat.{ℕ, zero, suc, _+_, _-_, _*_, _<_, _≤_}
+use native.Mathlib.Omega.{arith}
+use lib.Dec.{leb, eqb}
+use lib.ListN.{length, take, drop, length-append, length-drop}
+use lib.Seq.{take-at, drop-at}
+use borrow.Author.Tests.{le-leb, leb-true, leb-false, eq-eqb, eqb-true}
+use Rattle.definitions.specs.declared.Change.{Change}
+use Rattle.definitions.specs.declared.Move.{Move}
+use Rattle.definitions.specs.Lists.{every, same, over, firstNo}
+use Rattle.definitions.specs.Map.{Map, mapOf, actionsOf}
+use Rattle.definitions.specs.Rule.{widthOf, Placed, placedOf}
+use Rattle.definitions.specs.Table.{runsTo, runsOf, rowIn, tableIn, tableOf}
+use Rattle.definitions.specs.Edit.{changeOf, put, movesIn, movesOf, movesBytes}
+use Rattle.definitions.specs.Writing.{mapText}
+use Rattle.definitions.specs.Load.{loadNumber}
+use Rattle.definitions.specs.Calls.{whole, roomForTable, independent, fits, fresh, roomForMoves, EditAnswer, EditCase, caseOf, editNumber, editBy, editAnswer, editOf}
+use Rattle.laws.specs.Lists.{both, and-both}
+use Rattle.laws.specs.Loadable.{Loadable, put-loadable, put-groups, put-actions, put-width}
+use Rattle.tracing.specs.Listed.{table-width}
+use Rattle.text.specs.Agreement.{loaded-map, written-map, written-loads}
+
+-- a list is the same as itself
+same-self : (xs : List ℕ) → same xs xs ≡ true
+unfolding same
+same-self [] = refl
+same-self (x ∷ xs) = and-both (eq-eqb x x refl) (same-self xs)
+
+-- the frames and the table as they stand between two calls; rest is the table that fill was lent
+pub record Standing (rest frames table : List ℕ) : Type 0 where
+  pub loads : loadNumber frames ≡ 0
+  pub only : independent (mapOf frames) ≡ true
+  pub room : mapOf frames .groups * widthOf (mapOf frames) ≤ length rest
+  pub filled : table ≡ over (tableOf (mapOf frames)) rest
+
+pub independent-put : (m : Map) (c : Change) → independent (put m c) ≡ independent m
+unfolding independent
+independent-put m c = rw (put-actions m c)
+
+-- a new front of the same length over a list that had one
+pub over-over : (a b rest : List ℕ) → length a ≡ length b → over a (over b rest) ≡ over a rest
+over-over a b rest e =
+    ap (λ (l : List ℕ). a ++ l) (drop-at b (drop (length b) rest) (length a) (sym e) ∙ ap (λ (n : ℕ). drop n rest) (sym e))
+
+-- a call that is refused with number n: its count is zero, and everything lent is as it was
+pub record Refused (n : ℕ) (frames table space : List ℕ) (o : EditAnswer) : Type 0 where
+  pub number : o .number ≡ n
+  pub none : o .moves ≡ 0
+  pub same-frames : o .frames ≡ frames
+  pub same-table : o .table ≡ table
+  pub same-space : o .space ≡ space
+
+-- a call that is good: the map with the change put in, its fresh fill, and the moves between the two
+pub record Done (rest : List ℕ) (m : Map) (c : Change) (space : List ℕ) (o : EditAnswer) : Type 0 where
+  pub number : o .number ≡ 0
+  pub count : o .moves ≡ length (movesOf m (put m c))
+  pub text : o .frames ≡ mapText (put m c)
+  pub holds : mapOf (o .frames) ≡ put m c
+  pub filled : o .table ≡ over (tableOf (put m c)) rest
+  pub written : o .space ≡ over (movesBytes (movesOf m (put m c))) space
+
+-- a call is refused exactly where a question is answered no: where the map and the table stand as they should, that is 18 or 20
+pub data Told (rest frames table edit space : List ℕ) (o : EditAnswer) : Type 0 where
+  unfit : fits (mapOf frames) (changeOf edit) ≡ false → Refused 18 frames table space o → Told rest frames table edit space o
+  cramped : fits (mapOf frames) (changeOf edit) ≡ true → roomForMoves (movesOf (mapOf frames) (put (mapOf frames) (changeOf edit))) space ≡ false
+      → Refused 20 frames table space o → Told rest frames table edit space o
+  done : fits (mapOf frames) (changeOf edit) ≡ true → roomForMoves (movesOf (mapOf frames) (put (mapOf frames) (changeOf edit))) space ≡ true
+      → Done rest (mapOf frames) (changeOf edit) space o → Told rest frames table edit space o
+
+length-over : (a rest : List ℕ) → length a ≤ length rest → length (over a rest) ≡ length rest
+length-over a rest h = length-append a (drop (length a) rest) ∙ omega (arith, length-drop (length a) rest)
+
+module _ (rest frames table edit space : List ℕ) (S : Standing rest frames table) where
+  abbrev m : Map
+  m = mapOf frames
+
+  abbrev c : Change
+  c = changeOf edit
+
+  abbrev m′ : Map
+  m′ = put m c
+
+  loadable : Loadable m
+  loadable = loaded-map frames (S .loads)
+
+  filled-length : length (tableOf m) ≡ m .groups * widthOf m
+  unfolding tableOf runsOf
+  filled-length = table-width m loadable (S .only) (m .groups)
+
+  asked-14 : whole frames ≡ true
+  unfolding whole
+  asked-14 = eq-eqb (loadNumber frames) 0 (S .loads)
+
+  asked-16 : roomForTable m table ≡ true
+  unfolding roomForTable
+  asked-16 =
+      let l : length table ≡ length rest = ap length (S .filled) ∙ length-over (tableOf m) rest (omega (arith, filled-length, S .room)) in
+      le-leb (m .groups * widthOf m) (length table) (omega (arith, l, S .room))
+
+  asked-19 : fresh m (runsOf m) table ≡ true
+  unfolding fresh tableOf
+  asked-19 =
+      let e : take (m .groups * widthOf m) table ≡ tableIn (runsOf m) =
+      ap (take (m .groups * widthOf m)) (S .filled) ∙ take-at (tableOf m) (drop (length (tableOf m)) rest) (m .groups * widthOf m) filled-length in
+      rw e (same-self (tableIn (runsOf m)))
+
+  -- the questions that are left: 18 and 20
+  step-number : editNumber (caseOf frames table edit space) ≡ cond (fits m c) (cond (roomForMoves (movesOf m m′) space) 0 20) 18
+  unfolding editNumber caseOf firstNo movesOf
+  step-number = simp (asked-14, asked-16, S .only, asked-19)
+
+  answer-is : editOf frames table edit space ≡ editBy (caseOf frames table edit space) (cond (fits m c) (cond (roomForMoves (movesOf m m′) space) 0 20) 18)
+  unfolding editOf editAnswer
+  answer-is = ap (editBy (caseOf frames table edit space)) step-number
+
+  new-length : fits m c ≡ true → length (tableOf m′) ≡ length (tableOf m)
+  unfolding tableOf runsOf
+  new-length h =
+      let e : m′ .groups * widthOf m′ ≡ m .groups * widthOf m =
+      ap (λ (n : ℕ). n * widthOf m′) (put-groups m c) ∙ ap (λ (n : ℕ). m .groups * n) (put-width m c) in
+      table-width m′ (put-loadable m c loadable h) (independent-put m c ∙ S .only) (m′ .groups) ∙ e ∙ sym (table-width m loadable (S .only) (m .groups))
+
+  -- ONE CALL
+  pub step-told : Told rest frames table edit space (editOf frames table edit space)
+  unfolding editBy caseOf movesOf tableOf
+  step-told = rw answer-is (go (fits m c) refl (roomForMoves (movesOf m m′) space) refl)
+    where
+      go : (p : Bool) → fits m c ≡ p → (q : Bool) → roomForMoves (movesOf m m′) space ≡ q
+          → Told rest frames table edit space (editBy (caseOf frames table edit space) (cond p (cond q 0 20) 18))
+      go false e q f = unfit e (record { number = refl; none = refl; same-frames = refl; same-table = refl; same-space = refl })
+      go true e false f = cramped e f (record { number = refl; none = refl; same-frames = refl; same-table = refl; same-space = refl })
+      go true e true f =
+          done e f
+          (record {
+            number = refl;
+            count = refl;
+            text = refl;
+            holds = written-map m′ (put-loadable m c loadable e);
+            filled = ap (over (tableOf m′)) (S .filled) ∙ over-over (tableOf m′) (tableOf m) rest (new-length e);
+            written = refl;
+          })
+
+  -- the state after a call stands as the one before it did
+  pub step-stands : (o : EditAnswer) → Told rest frames table edit space o → Standing rest (o .frames) (o .table)
+  step-stands o (unfit e r) = rw (r .same-frames, r .same-table) S
+  step-stands o (cramped e f r) = rw (r .same-frames, r .same-table) S
+  step-stands o (done e f d) =
+      record {
+        loads = rw (d .text) (written-loads m′ (put-loadable m c loadable e));
+        only = ap independent (d .holds) ∙ independent-put m c ∙ S .only;
+        room =
+            subst (λ (n : Map). n .groups * widthOf n ≤ length rest) (sym (d .holds))
+            (subst (λ (n : ℕ). n * widthOf m′ ≤ length rest) (sym (put-groups m c))
+            (subst (λ (n : ℕ). m .groups * n ≤ length rest) (sym (put-width m c)) (S .room)));
+        filled = d .filled ∙ ap (λ (n : Map). over (tableOf n) rest) (sym (d .holds));
+      }
