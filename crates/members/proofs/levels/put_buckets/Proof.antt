@@ -1,0 +1,92 @@
+-- `members::levels::put_buckets` meets its contract: after k turns the table is that of the first k buckets, and each bucket's number is
+-- that of a slot behind the devices'. Assumes nothing.
+use mathlib.Core.Path.{_≡_, ap, _∙_}
+use Prim.Native.Nat.{_≤_, _<_, _-_}
+use native.Mathlib.Omega.{arith}
+use lib.ListN.{length}
+use borrow.Author.Needs.{needs}
+use Rattle.definitions.specs.Map.{mapOf}
+use Rattle.laws.specs.Loadable.{BucketRanged}
+use Rattle.text.specs.Records.{shape-buckets}
+use Rattle.members.specs.Levels.{bucket-in, bucketsTo, buckets-none, buckets-more}
+use Rattle.members.proofs.levels.put_buckets.Statement.{statement}
+use Rattle.members.proofs.levels.put_buckets.Tie as tie
+
+abbrev Inv-loop : tie.InvT-loop
+Inv-loop t s n table₀ k₀ table k = (k ≤ n) × (table ≡ bucketsTo (mapOf t) table₀ k)
+
+abbrev μ-loop : tie.MeasureT-loop
+μ-loop t s n table₀ k₀ table k = n - k
+
+-- the count is that of the map's buckets
+count : (s : tie.Start Inv-loop μ-loop) → s .args .s .buckets ≡ length (mapOf (s .args .t .now) .buckets)
+count s = shape-buckets (s .args .t .now) (s .args .s) (s .pre .1)
+
+-- in a turn, k is a bucket's place
+at : (c : tie.In-loop Inv-loop μ-loop) → c .before .loop .k < length (mapOf (c .before .before .before .args .t .now) .buckets)
+at c = omega (arith, c .loop-test .taken, count (c .before .before .before))
+
+-- and the bucket is in range
+here : (c : tie.After-bucket Inv-loop μ-loop) → BucketRanged (c .bucket .result)
+here c =
+    let s = c .before .before .before .before in
+    bucket-in (mapOf (s .args .t .now)) (s .pre .2) (c .before .before .loop .k) (c .bucket .result) (at (c .before)) (c .bucket .ensures)
+
+loop-holds : tie.Need-loop-holds Inv-loop μ-loop
+loop-holds c = (search needs, buckets-none (mapOf (c .before .args .t .now)) (c .before .args .devices))
+
+bucket-requires : tie.Need-bucket-requires Inv-loop μ-loop
+bucket-requires c κs = let s = c .before .before .before in (s .pre .0, s .pre .1, at c)
+
+add-i : tie.Need-add-i Inv-loop μ-loop
+add-i c = omega (arith, here (c .before) .number)
+
+cast-i : tie.Need-cast-i Inv-loop μ-loop
+cast-i c = omega (arith, here (c .before) .number)
+
+add-table : tie.Need-add-table Inv-loop μ-loop
+add-table c = omega (arith, here (c .before .before) .most)
+
+mul-table : tie.Need-mul-table Inv-loop μ-loop
+mul-table c = omega (arith, here (c .before .before) .number)
+
+array-write-table : tie.Need-array-write-table Inv-loop μ-loop
+array-write-table c = omega (arith, here (c .before .before) .number)
+
+add-k : tie.Need-add-k Inv-loop μ-loop
+add-k c = search needs
+
+loop-less : tie.Need-loop-less Inv-loop μ-loop
+loop-less c = search needs
+
+loop-again : tie.Need-loop-again Inv-loop μ-loop
+loop-again c =
+    let b = c .before .before in
+    let l = b .before .before in
+    let a = l .before .before .args in (
+      search needs,
+      buckets-more (mapOf (a .t .now)) (a .devices) (l .loop .k) (l .loop .table) (b .bucket .result) (l .loop .inv .1) (b .bucket .ensures),
+    )
+
+returns : tie.Need-returns Inv-loop μ-loop
+returns c =
+    let s = c .before .before .before in
+    c .before .loop .inv .1 ∙ ap (bucketsTo (mapOf (s .args .t .now)) (s .args .devices)) (omega (arith, c .loop-test .left, count s))
+
+pub put-buckets-spec : {M : Type 1} → statement M
+put-buckets-spec =
+    tie.close
+    (tie.spec
+    Inv-loop
+    μ-loop
+    loop-holds
+    bucket-requires
+    add-i
+    cast-i
+    add-table
+    mul-table
+    array-write-table
+    add-k
+    loop-less
+    loop-again
+    returns)

@@ -1,0 +1,84 @@
+-- `members::levels::put_devices` meets its contract: after k turns the table is that of the first k devices, and each device's number is
+-- a slot. Assumes nothing.
+use mathlib.Core.Path.{_≡_, ap, _∙_}
+use Prim.Native.Nat.{_≤_, _<_, _-_}
+use native.Mathlib.Omega.{arith}
+use lib.ListN.{length}
+use borrow.Author.Needs.{needs}
+use Rattle.definitions.specs.Map.{mapOf}
+use Rattle.laws.specs.Loadable.{DeviceRanged}
+use Rattle.text.specs.Records.{shape-devices}
+use Rattle.members.specs.Tables.{blank}
+use Rattle.members.specs.Levels.{device-in, devicesTo, devices-none, devices-more}
+use Rattle.members.proofs.levels.put_devices.Statement.{statement}
+use Rattle.members.proofs.levels.put_devices.Tie as tie
+
+abbrev Inv-loop : tie.InvT-loop
+Inv-loop t n table₀ k₀ table k = (k ≤ n) × (table ≡ devicesTo (mapOf t) k)
+
+abbrev μ-loop : tie.MeasureT-loop
+μ-loop t n table₀ k₀ table k = n - k
+
+-- the count is that of the map's devices
+count : (s : tie.Start Inv-loop μ-loop) → s .args .s .devices ≡ length (mapOf (s .args .t .now) .devices)
+count s = shape-devices (s .args .t .now) (s .args .s) (s .pre .1)
+
+-- in a turn, k is a device's place
+at : (c : tie.In-loop Inv-loop μ-loop) → c .before .loop .k < length (mapOf (c .before .before .before .args .t .now) .devices)
+at c = omega (arith, c .loop-test .taken, count (c .before .before .before))
+
+-- and the device is in range
+here : (c : tie.After-device Inv-loop μ-loop) → DeviceRanged (c .device .result)
+here c =
+    let s = c .before .before .before .before in
+    device-in (mapOf (s .args .t .now)) (s .pre .2) (c .before .before .loop .k) (c .device .result) (at (c .before)) (c .device .ensures)
+
+loop-holds : tie.Need-loop-holds Inv-loop μ-loop
+unfolding blank
+loop-holds c = (search needs, devices-none (mapOf (c .before .args .t .now)))
+
+device-requires : tie.Need-device-requires Inv-loop μ-loop
+device-requires c κs = (c .before .before .before .pre .0, at c)
+
+cast-i : tie.Need-cast-i Inv-loop μ-loop
+cast-i c = omega (arith, here (c .before) .number)
+
+mul-table : tie.Need-mul-table Inv-loop μ-loop
+mul-table c = omega (arith, here (c .before) .number)
+
+array-write-table : tie.Need-array-write-table Inv-loop μ-loop
+array-write-table c = omega (arith, here (c .before) .number)
+
+add-k : tie.Need-add-k Inv-loop μ-loop
+add-k c = search needs
+
+loop-less : tie.Need-loop-less Inv-loop μ-loop
+loop-less c = search needs
+
+loop-again : tie.Need-loop-again Inv-loop μ-loop
+loop-again c =
+    let l = c .before .before .before in (
+      search needs,
+      devices-more (mapOf (l .before .before .args .t .now)) (l .loop .k) (l .loop .table) (c .before .device .result) (l .loop .inv .1) (c .before .device .ensures),
+    )
+
+returns : tie.Need-returns Inv-loop μ-loop
+returns c =
+    let s = c .before .before .before in
+    c .before .loop .inv .1 ∙ ap (devicesTo (mapOf (s .args .t .now))) (omega (arith, c .loop-test .left, count s))
+
+pub put-devices-spec : {M : Type 1} → statement M
+put-devices-spec =
+    tie.close
+    (tie.spec
+    Inv-loop
+    μ-loop
+    loop-holds
+    device-requires
+    cast-i
+    mul-table
+    array-write-table
+    add-k
+    loop-less
+    loop-again
+    returns)

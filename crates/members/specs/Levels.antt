@@ -1,0 +1,173 @@
+-- The level of each item, and the table that has it: filled by a loop over the devices and one over the buckets. Assumes nothing.
+use mathlib.Core.Path.{_≡_, refl, sym, ap, _∙_, subst}
+use mathlib.Core.Bool.{true, cond}
+use mathlib.Core.List.{List}
+use mathlib.Core.Logic.{inl, inr}
+use Prim.Native.Nat.{ℕ, _+_, _-_, _<_, _≤_}
+use native.Mathlib.Omega.{arith}
+use native.Mathlib.Numerals.{add-one}
+use lib.ListN.{length, getD, set}
+use borrow.Author.Tests.{le-leb, lt-leb}
+use Rattle.definitions.specs.declared.Device.{Device}
+use Rattle.definitions.specs.declared.Bucket.{Bucket}
+use Rattle.definitions.specs.declared.Link.{Link}
+use Rattle.definitions.specs.Map.{Map, isBucket, bucketItem, bucketNumber}
+use Rattle.definitions.specs.View.{bucketType, typeBy, typeOf}
+use Rattle.definitions.specs.Load.{deviceRanged, bucketRanged, linkRanged, ranged, rising, hasDevice, hasBucket, hasItem}
+use Rattle.laws.specs.Lists.{every-at}
+use Rattle.laws.specs.Counting.{lookup-at}
+use Rattle.laws.specs.Loadable.{ranged-is, DeviceRanged, device-ranged, BucketRanged, bucket-ranged, ChildRanged, LinkRanged, link-ranged, rising-is}
+use Rattle.text.specs.Records.{noDevice, noBucket, noLink}
+use Rattle.members.specs.Tables.{blank, blank-length, blank-at, putTo, put-length, put-other, put-is}
+
+-- the slot of item i: devices first, and buckets behind them
+unfoldable pub slotOf : ℕ → ℕ
+slotOf i = cond (isBucket i) (i - 65536 + 1024) i
+
+-- 0 where item i is absent, and its type plus 1 where it is present
+unfoldable pub levelOf : Map → ℕ → ℕ
+levelOf m i = cond (hasItem m i) (typeOf m i + 1) 0
+
+-- what the table r has at the slot of item i
+abbrev pub levelAt : List ℕ → ℕ → ℕ
+levelAt r i = getD r (slotOf i) 0
+
+-- the table r has each item's level at its slot
+pub record Levels (m : Map) (r : List ℕ) : Type 0 where
+  pub size : length r ≡ 1280
+  pub level : (i : ℕ) → ChildRanged i → levelAt r i ≡ levelOf m i
+
+-- ---- slots
+
+pub slot-device : (i : ℕ) → i < 65536 → i ≡ slotOf i
+unfolding slotOf
+slot-device i h = rw (lt-leb 65536 i h)
+
+pub slot-bucket : (i : ℕ) → 65536 ≤ i → i - 65536 + 1024 ≡ slotOf i
+unfolding slotOf
+slot-bucket i h = rw (le-leb 65536 i h)
+
+pub slot-small : (i : ℕ) → ChildRanged i → slotOf i < 1280
+slot-small i (inl a) = rw (← slot-device i (omega arith)) (omega arith)
+slot-small i (inr (a, b)) = rw (← slot-bucket i a) (omega arith)
+
+-- two items have two slots
+pub slot-one : (i j : ℕ) → ChildRanged i → ChildRanged j → slotOf i ≡ slotOf j → i ≡ j
+slot-one i j (inl a) (inl b) e = omega (arith, e, slot-device i (omega arith), slot-device j (omega arith))
+slot-one i j (inl a) (inr (b, c)) e = omega (arith, e, slot-device i (omega arith), slot-bucket j b)
+slot-one i j (inr (a, c)) (inl b) e = omega (arith, e, slot-bucket i a, slot-device j (omega arith))
+slot-one i j (inr (a, c)) (inr (b, d)) e = omega (arith, e, slot-bucket i a, slot-bucket j b)
+
+-- a bucket's item number is in range
+pub bucket-item : (b : ℕ) → b ≤ 255 → ChildRanged (bucketItem b)
+bucket-item b h = inr (omega arith, omega arith)
+
+-- ---- the records that are read at a place are in range
+
+module _ (m : Map) (h : ranged m ≡ true) (k : ℕ) where
+  pub device-in : (d : Device) → k < length (m .devices) → d ≡ getD (m .devices) k noDevice → DeviceRanged d
+  device-in d l e = subst DeviceRanged (sym e) (device-ranged _ (every-at deviceRanged (m .devices) k noDevice (ranged-is m h .devices) l))
+
+  pub bucket-in : (b : Bucket) → k < length (m .buckets) → b ≡ getD (m .buckets) k noBucket → BucketRanged b
+  bucket-in b l e = subst BucketRanged (sym e) (bucket-ranged _ (every-at bucketRanged (m .buckets) k noBucket (ranged-is m h .buckets) l))
+
+  pub link-in : (n : Link) → k < length (m .links) → n ≡ getD (m .links) k noLink → LinkRanged n
+  link-in n l e = subst LinkRanged (sym e) (link-ranged _ (every-at linkRanged (m .links) k noLink (ranged-is m h .links) l))
+
+-- ---- the table
+
+abbrev number : Device → ℕ
+number d = d .number
+
+-- after the first k devices
+unfoldable pub devicesTo : Map → ℕ → List ℕ
+devicesTo m k = putTo (λ (d : Device). d .number) (λ (d : Device). 1) noDevice (m .devices) (blank 1280) k
+
+-- from a table t, after the first k buckets
+unfoldable pub bucketsTo : Map → List ℕ → ℕ → List ℕ
+bucketsTo m t k = putTo (λ (b : Bucket). b .number + 1024) (λ (b : Bucket). b .ty + 1) noBucket (m .buckets) t k
+
+module _ (m : Map) where
+  -- a loop that makes the first: its start, and one device more
+  pub devices-none : blank 1280 ≡ devicesTo m 0
+  unfolding devicesTo putTo
+  devices-none = refl
+
+  pub devices-more : (k : ℕ) (t : List ℕ) (d : Device) → t ≡ devicesTo m k → d ≡ getD (m .devices) k noDevice
+      → set t (d .number) 1 ≡ devicesTo m (k + 1)
+  unfolding devicesTo putTo
+  devices-more k t d e q = rw (add-one k, e, q)
+
+  -- and one that makes the second
+  pub buckets-none : (t : List ℕ) → t ≡ bucketsTo m t 0
+  unfolding bucketsTo putTo
+  buckets-none t = refl
+
+  pub buckets-more : (t : List ℕ) (k : ℕ) (u : List ℕ) (b : Bucket) → u ≡ bucketsTo m t k → b ≡ getD (m .buckets) k noBucket
+      → set u (b .number + 1024) (b .ty + 1) ≡ bucketsTo m t (k + 1)
+  unfolding bucketsTo putTo
+  buckets-more t k u b e q = rw (add-one k, e, q)
+
+  -- the level of a device, and of a bucket
+  level-device : (i : ℕ) → i < 65536 → levelOf m i ≡ cond (hasDevice m i) 1 0
+  unfolding levelOf hasItem typeOf typeBy
+  level-device i h = rw (lt-leb 65536 i h)
+
+  level-bucket : (i : ℕ) → 65536 ≤ i → levelOf m i ≡ cond (hasBucket m (bucketNumber i)) (bucketType m (bucketNumber i) + 1) 0
+  unfolding levelOf hasItem typeOf typeBy
+  level-bucket i h = rw (le-leb 65536 i h)
+
+  module _ (g : ranged m ≡ true) (r : rising m ≡ true) where
+    -- what the loop over devices leaves at a device's slot, and behind those
+    device-put : (i : ℕ) → i < 1024 → getD (devicesTo m (length (m .devices))) i 0 ≡ cond (hasDevice m i) 1 0
+    unfolding devicesTo hasDevice
+    device-put i h =
+        put-is number (λ (v : ℕ). v) (λ (d : Device). 1) noDevice (m .devices) (blank 1280) (λ (v : ℕ). 1) (λ a b e. e) (rising-is m r .devices)
+        (λ k l. refl) i (omega (arith, blank-length 1280))
+        ∙ ap (cond (hasDevice m i) 1) (blank-at 1280 i (omega arith))
+
+    device-length : length (devicesTo m (length (m .devices))) ≡ 1280
+    unfolding devicesTo
+    device-length = put-length number (λ (d : Device). 1) noDevice (m .devices) (blank 1280) (length (m .devices)) ∙ blank-length 1280
+
+    device-behind : (i : ℕ) → 1024 ≤ i → i < 1280 → getD (devicesTo m (length (m .devices))) i 0 ≡ 0
+    unfolding devicesTo
+    device-behind i h l =
+        put-other number (λ (d : Device). 1) noDevice (m .devices) (blank 1280) i (length (m .devices))
+        (λ j b e. omega (arith, e, device-in m g j _ b refl .number))
+        ∙ blank-at 1280 i l
+
+    -- what the loop over buckets leaves at a bucket's slot, and before those
+    bucket-put : (t : List ℕ) (n : ℕ) → n + 1024 < length t → getD (bucketsTo m t (length (m .buckets))) (n + 1024) 0 ≡ cond (hasBucket m n) (bucketType m n + 1) (getD t (n + 1024) 0)
+    unfolding bucketsTo hasBucket bucketType
+    bucket-put t n h =
+        put-is (λ (b : Bucket). b .number) (λ (v : ℕ). v + 1024) (λ (b : Bucket). b .ty + 1) noBucket (m .buckets) t (λ (v : ℕ). bucketType m v + 1)
+        (λ a b e. omega (arith, e)) (rising-is m r .buckets)
+        (λ k l. ap (λ (v : ℕ). v + 1) (sym (lookup-at (λ (b : Bucket). b .number) noBucket (λ (b : Bucket). b .ty) (m .buckets) k (rising-is m r .buckets) l)))
+        n h
+
+    bucket-before : (t : List ℕ) (i : ℕ) → i < 1024 → getD (bucketsTo m t (length (m .buckets))) i 0 ≡ getD t i 0
+    unfolding bucketsTo
+    bucket-before t i h =
+        put-other (λ (b : Bucket). b .number + 1024) (λ (b : Bucket). b .ty + 1) noBucket (m .buckets) t i (length (m .buckets)) (λ j b e. omega (arith, e))
+
+    both-length : length (bucketsTo m (devicesTo m (length (m .devices))) (length (m .buckets))) ≡ 1280
+    unfolding devicesTo bucketsTo
+    both-length =
+        put-length (λ (b : Bucket). b .number + 1024) (λ (b : Bucket). b .ty + 1) noBucket (m .buckets) (devicesTo m (length (m .devices))) (length (m .buckets))
+        ∙ device-length
+
+    -- both loops together give each item's level
+    pub levels-are : (t : List ℕ) → t ≡ bucketsTo m (devicesTo m (length (m .devices))) (length (m .buckets)) → Levels m t
+    levels-are t e = subst (Levels m) (sym e) (record { size = both-length; level = item })
+      where
+        ds : List ℕ
+        ds = devicesTo m (length (m .devices))
+
+        item : (i : ℕ) → ChildRanged i → getD (bucketsTo m ds (length (m .buckets))) (slotOf i) 0 ≡ levelOf m i
+        item i (inl a) = rw (← slot-device i (omega arith)) (bucket-before ds i a ∙ device-put i a ∙ sym (level-device i (omega arith)))
+        item i (inr (a, b)) =
+            rw (← slot-bucket i a)
+            (bucket-put ds (i - 65536) (omega (arith, device-length))
+            ∙ ap (cond (hasBucket m (i - 65536)) (bucketType m (i - 65536) + 1)) (device-behind (i - 65536 + 1024) (omega arith) (omega arith))
+            ∙ sym (level-bucket i a))

@@ -1,0 +1,6 @@
+-- What the questions about a map's members go by: tables with a slot for each item, or for each bucket.
+pub mod Tables
+pub mod Levels
+pub mod Present
+pub mod Once
+pub mod Counts
