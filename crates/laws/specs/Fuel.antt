@@ -91,7 +91,7 @@ pub record Sinks (v : View) : Type 0 where
 
 module _ (v : View) (sinks : Sinks v) (x t r : ℕ) where
   -- an item of a type above t is a bucket's
-  is-bucket : (i : ℕ) → t < v .type i → bucketItem (bucketNumber i) ≡ i
+  pub is-bucket : (i : ℕ) → t < v .type i → bucketItem (bucketNumber i) ≡ i
   is-bucket i h = go (leb 65536 i) refl
     where
       go : (u : Bool) → leb 65536 i ≡ u → bucketItem (bucketNumber i) ≡ i

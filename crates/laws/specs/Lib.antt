@@ -7,4 +7,5 @@ pub mod Logarithm
 pub mod Draw
 pub mod Loadable
 pub mod Fuel
+pub mod Walk
 pub mod Forest

@@ -5,10 +5,11 @@ use mathlib.Core.List.{List, [], _∷_, _++_, map, append-assoc}
 use Prim.Native.Nat.{ℕ, zero, suc, _+_, _<_, _≤_}
 use native.Mathlib.Omega.{arith}
 use native.Mathlib.Nat.{le-of-lt}
+use borrow.Author.Tests.{eq-eqb, ne-eqb}
 use lib.ListN.{length, getD, drop, take, set, length-append, length-drop, drop-of-length-le}
 use lib.Seq.{drop-cons, take-suc, set-at, take-length, length-take-le}
 use native.Mathlib.Numerals.{add-one}
-use Rattle.definitions.specs.Lists.{every, kept, linkedFrom, linked}
+use Rattle.definitions.specs.Lists.{every, kept, linkedFrom, linked, has}
 
 pub both : (a b : Bool) → a && b ≡ true → (a ≡ true) × (b ≡ true)
 both true b e = (refl, e)
@@ -191,3 +192,17 @@ module _ {A : Type 0} (p : A → A → Bool) (xs : List A) (d : A) where
       go : (ys : List A) → length ys ≡ 0 → linked p ys ≡ true
       go [] h = refl
       go (y ∷ ys) h = absurd (omega (arith, h))
+
+-- a loop that looks for a number from the front
+module _ (k : ℕ) (xs : List ℕ) (i : ℕ) where
+  pub has-next : i < length xs → (getD xs i 0 ≡ k → ⊥) → has k (drop (i + 1) xs) ≡ has k (drop i xs)
+  unfolding has
+  has-next h e = rw (add-one i, drop-cons xs i 0 h, ne-eqb _ _ e)
+
+  pub has-here : i < length xs → getD xs i 0 ≡ k → has k (drop i xs) ≡ true
+  unfolding has
+  has-here h e = rw (drop-cons xs i 0 h, eq-eqb _ _ e)
+
+  pub has-end : length xs ≤ i → has k (drop i xs) ≡ false
+  unfolding has
+  has-end h = rw (drop-of-length-le xs {i = i} h)

@@ -1,0 +1,92 @@
+// Document 01, "Questions at the door": load.
+ghost use mathlib.Core.Path.{_≡_};
+ghost use Prim.Native.Nat.{_-_};
+ghost use lib.ListN.{length};
+ghost use Rattle.definitions.specs.Load.{loadNumber};
+ghost use Rattle.door.specs.Types.{typesTo};
+use blocks::standing;
+use blocks::widths;
+use frames::lines;
+use frames::shape;
+use members::falling;
+use members::levels;
+use members::narrow;
+use members::once;
+use members::present;
+use ranges::light;
+use ranges::ranged;
+use ranges::rising;
+
+// The type of a bucket, from its level: one less where it is present, and 0 where it is not.
+fn type_at(level: u32) -> u32
+    ensures { λ r. ⌜ r ≡ level - 1 ⌝ }
+{
+    if level == 0 {
+        return 0;
+    }
+    level - 1
+}
+
+// Of each bucket number the type.
+fn types_of(table: &[u32]) -> [u32; 256]
+    requires { ⌜ length (now table) ≡ 1280 ⌝ }
+    ensures { λ r. ⌜ r ≡ typesTo (now (table .entry)) 256 ⌝ }
+{
+    let mut types = [0u32; 256];
+    let mut b: u32 = 0;
+    while b < 256 {
+        let level = levels::bucket_level(table, b);
+        types[b as usize] = type_at(level);
+        b += 1;
+    }
+    types
+}
+
+// The number of the first question answered no, or 0.
+pub fn load(t: &[u8]) -> u32
+    ensures { λ r. ⌜ r ≡ loadNumber (now (t .entry)) ⌝ }
+{
+    if !lines::sized(t) {
+        return 1;
+    }
+    if !lines::formed(t) {
+        return 2;
+    }
+    let s = shape::shape_of(t);
+    if !shape::ordered(t, s) {
+        return 3;
+    }
+    if !shape::counted(t, s) {
+        return 4;
+    }
+    if !ranged::ranged(t, s) {
+        return 5;
+    }
+    if !rising::rising(t, s) {
+        return 6;
+    }
+    let table = levels::levels(t, s);
+    if !present::present(t, s, &table) {
+        return 7;
+    }
+    if !once::once(t, s) {
+        return 8;
+    }
+    if !falling::falling(t, s, &table) {
+        return 9;
+    }
+    if !narrow::narrow(t, s) {
+        return 10;
+    }
+    let types = types_of(&table);
+    if !standing::in_blocks(t, s, &types) {
+        return 11;
+    }
+    if !widths::slim(t, s) {
+        return 12;
+    }
+    if !light::light(t, s) {
+        return 13;
+    }
+    0
+}
