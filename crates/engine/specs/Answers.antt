@@ -1,0 +1,13 @@
+-- What comes back of each call as one record: the numbers and counts that it answers, and the contents at exit of all that it was lent to
+-- write.
+use mathlib.Core.List.{List}
+use Prim.Native.Nat.{ℕ}
+use Rattle.definitions.specs.Calls.{WriteAnswer, DayAnswer}
+use Rattle.engine.specs.declared.write.Written.{Written}
+use Rattle.engine.specs.declared.day.Day.{Day}
+
+abbrev pub writeAnswer : Written → List ℕ → WriteAnswer
+writeAnswer r space = record { number = r .number; bytes = r .bytes; space = space }
+
+abbrev pub dayAnswer : Day → DayAnswer
+dayAnswer r = record { number = r .number; group = r .group }

@@ -1,0 +1,32 @@
+// "A day's group is hash of two (show, day) mod G, both 32-bit."
+ghost use mathlib.Core.Path.{_≡_};
+ghost use Prim.Native.Nat.{_%_, _<_};
+ghost use Rattle.definitions.specs.Calls.{dayOf};
+ghost use Rattle.definitions.specs.Hash.{hash2};
+ghost use Rattle.engine.specs.Answers.{dayAnswer};
+use frames::records;
+
+// S of document 01, under every hash.
+pub const SEED: u32 = 1315423911;
+
+// 14 or 0, and the group.
+pub struct Day {
+    pub number: u32,
+    pub group: u32,
+}
+
+pub fn day_group(map: &[u8], show: u32, day: u32) -> Day
+    ensures { λ r. ⌜ dayAnswer r ≡ dayOf (now (map .entry)) show day ⌝ }
+{
+    if door::load(map) != 0 {
+        return Day {
+            number: 14,
+            group: 0,
+        };
+    }
+    let g = records::groups(map);
+    Day {
+        number: 0,
+        group: jenkins::hash2(SEED, show, day) % g,
+    }
+}

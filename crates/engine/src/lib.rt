@@ -1,0 +1,5 @@
+// The engine's callable functions. None has a `requires`: what is lent is asked about first, and a refusal returns its number, counts of
+// zero, and alters nothing.
+pub mod day;
+pub mod load;
+pub mod write;
