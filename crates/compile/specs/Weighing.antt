@@ -1,0 +1,158 @@
+-- The loads that the rounds give are the weights of the map's buckets, and none overflows. Assumes nothing.
+use mathlib.Core.Path.{_≡_, refl, sym, ap, _∙_}
+use mathlib.Core.Bool.{Bool, true, false, cond}
+use mathlib.Core.Logic.{inl, inr}
+use mathlib.Core.List.{List, [], _∷_, map, List·Memᴰ, List·Memᴰ·head}
+use Prim.Native.Nat.{ℕ, zero, suc, _+_, _-_, _<_, _≤_}
+use native.Mathlib.Omega.{arith}
+use native.Mathlib.Numerals.{add-one}
+use lib.Dec.{eqb}
+use lib.ListN.{length, getD, set, replicate, length-set}
+use borrow.Author.Tests.{eqb-true, eqb-false}
+use Rattle.definitions.specs.declared.Link.{Link}
+use Rattle.definitions.specs.Lists.{sum}
+use Rattle.definitions.specs.Map.{Map, bucketItem, bucketNumber}
+use Rattle.definitions.specs.View.{childrenOf, bucketType, typeOf, deviceWeight, weightOf, weightsOf}
+use Rattle.definitions.specs.Load.{linkRanged}
+use Rattle.laws.specs.Members.{mem-every, map-ext}
+use Rattle.laws.specs.Loadable.{Loadable, ranged-is, link-ranged, ChildRanged}
+use Rattle.laws.specs.Forest.{forest, kidsOf, type-bucket, kids-bucket, kid-link, weight-device, weight-bucket, weight-most}
+use Rattle.compile.specs.Tables.{Tabled, getD-set, blank}
+use Rattle.compile.specs.Links.{Arranged}
+use Rattle.compile.specs.Weights.{itemIn, Arrays, arrays, Within, loadIn, weighedAt, roundTo, upTo, Fitting, item-bucket, item-device}
+
+-- ---- a child
+
+-- a child of bucket b, as a link has it
+pub record Child (m : Map) (b c : ℕ) : Type 0 where
+  pub link : Link
+  pub mem : List·Memᴰ link (m .links)
+  pub bucket : link .bucket ≡ b
+  pub ranged : ChildRanged c
+  pub falls : typeOf m c < bucketType m b
+
+pub child-of : (m : Map) → Loadable m → (b c : ℕ) → List·Memᴰ c (childrenOf m b) → Child m b c
+child-of m L b c n =
+    let k : List·Memᴰ c (kidsOf m (bucketItem b)) = rw (kids-bucket m b) n in
+    let (l, p, q, e) = kid-link m (bucketItem b) c k in
+    record {
+      link = l;
+      mem = p;
+      bucket = omega (arith, q);
+      ranged = rw e at (link-ranged l (mem-every linkRanged p (ranged-is m (L .ranged) .links)) .child);
+      falls = omega (arith, forest m L .falls (bucketItem b) c k, type-bucket m b);
+    }
+
+-- ---- what is known between two buckets of a round
+
+-- the loads of the types up to n, and of the buckets below k of the type behind it
+pub record Known (m : Map) (loads : List ℕ) (n k : ℕ) : Type 0 where
+  pub size : length loads ≡ 256
+  pub below : (b : ℕ) → b < 256 → bucketType m b ≤ n → getD loads b 0 ≡ weightOf m (bucketItem b)
+  pub here : (b : ℕ) → b < k → b < 256 → bucketType m b ≡ suc n → getD loads b 0 ≡ weightOf m (bucketItem b)
+
+-- the types up to n + 1 are known after all buckets
+known-next : (m : Map) (loads : List ℕ) (n : ℕ) → Known m loads n 256 → Known m loads (suc n) 0
+known-next m loads n h =
+    record { size = h .size; below = λ b s l. go b s l (eqb (bucketType m b) (suc n)) refl; here = λ b s. absurd (omega arith) }
+  where
+    go : (b : ℕ) → b < 256 → bucketType m b ≤ suc n → (t : Bool) → eqb (bucketType m b) (suc n) ≡ t → getD loads b 0 ≡ weightOf m (bucketItem b)
+    go b s l true e = h .here b s s (eqb-true _ _ e)
+    go b s l false e = let d : bucketType m b ≡ suc n → ⊥ = eqb-false _ _ e in h .below b s (omega arith)
+
+module _ (m : Map) (L : Loadable m) where
+  -- a bucket of type 0 weighs nothing
+  known-none : Known m (replicate 256 0) 0 0
+  unfolding weightsOf sum
+  known-none =
+      let t = blank 256 (λ i. 0) (λ i. refl) in
+      record { size = t .size; below = λ b s l. t .at b ∙ sym (weight-bucket m L b ∙ go b l (childrenOf m b) refl); here = λ b s. absurd (omega arith) }
+    where
+      go : (b : ℕ) → bucketType m b ≤ 0 → (cs : List ℕ) → childrenOf m b ≡ cs → sum (map (weightOf m) cs) ≡ 0
+      go b l [] e = refl
+      go b l (c ∷ cs) e = absurd (omega (arith, child-of m L b c (rw e (List·Memᴰ·head refl)) .falls))
+
+  -- where the arrays are the map's
+  module _ {first count items devices types : List ℕ} (A : Arranged m first count items) (D : Tabled devices 1024 (deviceWeight m))
+      (T : Tabled types 256 (bucketType m)) where
+    abbrev held : Arrays
+    held = arrays first count items devices
+
+    pub within : Within held
+    within =
+        record { firsts = A .firsts; counts = A .counts; weighted = D .size; inside = λ b. omega (arith, A .within b, A .long); ranged = A .ranged }
+
+    -- the weight of a child of a known type
+    pub item-weight : (loads : List ℕ) (n k c : ℕ) → Known m loads n k → ChildRanged c → typeOf m c ≤ n → itemIn devices loads c ≡ weightOf m c
+    item-weight loads n k c h (inl r) l =
+        let s : c < 65536 = omega arith in
+        item-device devices loads c s ∙ D .at c ∙ sym (weight-device m c s)
+    item-weight loads n k c h (inr r) l =
+        let e : bucketItem (bucketNumber c) ≡ c = omega arith in
+        item-bucket devices loads c (r .0)
+        ∙ h .below (bucketNumber c) (omega arith) (omega (arith, type-bucket m (bucketNumber c), ap (typeOf m) e))
+        ∙ ap (weightOf m) e
+
+    -- the load of a bucket whose children's types are known
+    pub load-weight : (loads : List ℕ) (n k b : ℕ) → Known m loads n k → bucketType m b ≡ suc n → loadIn held loads b ≡ weightOf m (bucketItem b)
+    unfolding loadIn weightsOf
+    load-weight loads n k b h e =
+        rw (A .children b)
+        (ap sum
+        (map-ext (itemIn devices loads) (weightOf m) (childrenOf m b)
+        (λ c q. let d = child-of m L b c q in item-weight loads n k c h (d .ranged) (omega (arith, d .falls))))
+        ∙ sym (weight-bucket m L b))
+
+    -- one bucket more
+    known-more : (loads : List ℕ) (n k : ℕ) → k < 256 → Known m loads n k → Known m (weighedAt held types (suc n) loads k) n (suc k)
+    unfolding weighedAt
+    known-more loads n k s h = go (eqb (getD types k 0) (suc n)) refl
+      where
+        v : ℕ
+        v = loadIn held loads k
+
+        W : ℕ → ℕ
+        W b = weightOf m (bucketItem b)
+
+        stored : v ≡ W k → (b : ℕ) (t : Bool) → eqb k b ≡ t → ((k ≡ b → ⊥) → getD loads b 0 ≡ W b) → cond t v (getD loads b 0) ≡ W b
+        stored e b true p q = e ∙ ap W (eqb-true k b p)
+        stored e b false p q = q (eqb-false k b p)
+
+        at : v ≡ W k → (b : ℕ) → ((k ≡ b → ⊥) → getD loads b 0 ≡ W b) → getD (set loads k v) b 0 ≡ W b
+        at e b q = getD-set loads k v b (omega (arith, h .size)) ∙ stored e b (eqb k b) refl q
+
+        go : (t : Bool) → eqb (getD types k 0) (suc n) ≡ t → Known m (cond t (set loads k v) loads) n (suc k)
+        go true e =
+            let w = load-weight loads n k k h (sym (T .at k) ∙ eqb-true _ _ e) in
+            record {
+              size = length-set loads k v ∙ h .size;
+              below = λ b z l. at w b (λ d. h .below b z l);
+              here = λ b y z l. at w b (λ d. h .here b (omega arith) z l);
+            }
+        go false e =
+            record {
+              size = h .size;
+              below = h .below;
+              here = λ b y z l.
+                  let d : k ≡ b → ⊥ = λ p. eqb-false _ _ e (T .at k ∙ ap (bucketType m) p ∙ l) in
+                  h .here b (omega arith) z l;
+            }
+
+    -- the first k buckets of a round
+    pub known-round : (loads : List ℕ) (n k : ℕ) → k ≤ 256 → Known m loads n 0 → Known m (roundTo held types (suc n) loads k) n k
+    unfolding roundTo
+    known-round loads n zero s h = h
+    known-round loads n (suc k) s h = known-more (roundTo held types (suc n) loads k) n k (omega arith) (known-round loads n k (omega arith) h)
+
+    -- the types up to n
+    pub known : (n : ℕ) → Known m (upTo held types n) n 0
+    unfolding upTo
+    known zero = known-none
+    known (suc n) = known-next m _ n (known-round (upTo held types n) n 256 (omega arith) (known n))
+
+    -- no load overflows
+    pub fitting : (n : ℕ) → Fitting held types (n + 1) (upTo held types n)
+    fitting n b s e =
+        let t : bucketType m b ≡ suc n = sym (T .at b) ∙ e ∙ add-one n in
+        rw (add-one n)
+        (omega (arith, load-weight (roundTo held types (suc n) (upTo held types n) b) n b b (known-round (upTo held types n) n b (omega arith) (known n)) t, weight-most m L (bucketItem b)))

@@ -1,0 +1,59 @@
+-- `placement::rule::place_row` meets its contract: the list of the run is written over the row. Assumes nothing.
+use mathlib.Core.Path.{_≡_, sym, ap, _∙_}
+use Prim.Native.Nat.{_≤_}
+use native.Mathlib.Omega.{arith}
+use borrow.Author.Needs.{needs}
+use lib.ListN.{length}
+use lib.Seq.{length-take-le}
+use Rattle.placement.specs.Bare.{BareRun, filledUp}
+use Rattle.placement.specs.Working.{list-small}
+use Rattle.placement.specs.Progress.{runIn, length-actions}
+use Rattle.placement.proofs.rule.place_row.Statement.{statement}
+use Rattle.placement.proofs.rule.place_row.Tie as tie
+
+-- the list is within its array
+within : (c : tie.After-run) → c .run .result .emitted ≤ length (c .run .result .list)
+within c =
+    let w : length (c .run .result .list) ≡ 32 = search (needs, c .run .ok) in
+    omega (arith, w, c .run .ensures .1)
+
+run-requires : tie.Need-run-requires
+run-requires c κs = search needs
+
+array-share-prefix-list : tie.Need-array-share-prefix-list
+array-share-prefix-list c = within (c .before)
+
+slice-aggregate-write-row : tie.Need-slice-aggregate-write-row
+slice-aggregate-write-row c = let r = c .before .before .run .result in sym (length-take-le (r .emitted) (r .list) (within (c .before .before)))
+
+write-row-requires : tie.Need-write-row-requires
+write-row-requires c κs =
+    let k = c .before .before .before in
+    let s = c .before .before .before .before .before .before .before .before .before .before .before in
+    let p = k .run .result in
+    let w : length (s .args .steps) ≡ 16 = search (needs, s .good .1 .1 .1 .1 .1 .1 .1 .0) in
+    let n = length-actions (s .args .steps) (s .args .n) (omega (arith, w, s .pre .0 .0)) in (
+      list-small (s .pre .0 .1) (s .args .x) (s .args .n) (runIn p) (omega (arith, n)) (k .run .ensures .0),
+      omega (arith, length-take-le (p .emitted) (p .list) (within k), k .run .ensures .2, s .pre .1),
+    )
+
+same-length : tie.Need-same-length
+same-length c = search needs
+
+returns : tie.Need-returns
+returns c =
+    let s = c .before .before .before .before .before .before .before .before .before .before .before .before .before .before in
+    let k = c .before .before .before .before .before .before in
+    let e = k .run .ensures .0 in
+    (c .before .before .write-row .ensures ∙ ap (λ (r : BareRun). filledUp (length (s .args .row .now)) (r .list)) e, ap (λ (r : BareRun). r .tries) e)
+
+pub place-row-spec : {M : Type 1} → statement M
+place-row-spec =
+    tie.close
+    (tie.spec
+    run-requires
+    array-share-prefix-list
+    slice-aggregate-write-row
+    write-row-requires
+    same-length
+    returns)

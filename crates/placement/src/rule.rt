@@ -1,0 +1,265 @@
+// Document 01, "Walk, select and rule": the rule's steps, and a group's list with its tries.
+ghost use mathlib.Core.Path.{_≡_};
+ghost use Prim.Native.Nat.{ℕ, _+_, _<_, _≤_};
+ghost use lib.ListN.{length, getD};
+ghost use Rattle.definitions.specs.View.{View};
+ghost use Rattle.definitions.specs.Walk.{hole};
+ghost use Rattle.hierarchy.specs.Arrays.{viewFrom, Sound};
+ghost use Rattle.blocks.specs.Products.{emittedTo};
+ghost use Rattle.placement.specs.Bare.{bareAct, bareRunTo, filledUp};
+ghost use Rattle.placement.specs.Entries.{Each};
+ghost use Rattle.placement.specs.Working.{Small};
+ghost use Rattle.placement.specs.Ruled.{Ready};
+ghost use Rattle.placement.specs.Progress.{runIn, Room, Doable, Stepped, actionsTo};
+use crate::select;
+use blocks::actions;
+use definitions::Action;
+use definitions::Mode;
+use definitions::Step;
+use item::Item;
+
+// The working list (the first `len` entries), the list emitted so far (the first `emitted`), and the tries so far.
+pub struct Progress {
+    pub working: [u32; 16],
+    pub len: usize,
+    pub list: [u32; 32],
+    pub emitted: usize,
+    pub tries: u32,
+}
+
+// "Take sets the working list to one bucket."
+fn take_bucket(p: Progress, b: u32) -> Progress
+    requires { ⌜ Room p × (b < 256) ⌝ }
+    ensures { λ q. ⌜ ((v : View) (x : ℕ) → runIn q ≡ bareAct v x (runIn p) (Action.Take b)) × Room q × Stepped p (Action.Take b) q ⌝ }
+{
+    let i = Item::bucket(b);
+    let list = p.list;
+    let mut working = p.working;
+    working[0] = i.number;
+    Progress {
+        working: working,
+        len: 1,
+        list: list,
+        emitted: p.emitted,
+        tries: p.tries,
+    }
+}
+
+// The select's entries become the working list.
+fn selected<'a>(
+    first: &'a [u32],
+    count: &'a [u32],
+    types: &'a [u32],
+    items: &'a [u32],
+    weights: &'a [u32],
+    acceptance: &'a [u32],
+    seed: u32,
+    x: u32,
+    p: Progress,
+    mode: Mode,
+    n: u32,
+    t: u32,
+) -> Progress
+    requires { ⌜ Sound (now first) (now count) (now types) (now items) (now weights) ⌝ }
+    requires { ⌜ (length (now acceptance) ≡ 1024) × Room p × (p .tries ≤ 1000000) × Doable p (Action.Select mode n t) ⌝ }
+    ensures { λ q. ⌜ (runIn q ≡ bareAct
+        (viewFrom seed (now (first .entry)) (now (count .entry)) (now (types .entry)) (now (items .entry)) (now (weights .entry)) (now (acceptance .entry)))
+        x (runIn p) (Action.Select mode n t)) × Room q × Stepped p (Action.Select mode n t) q ⌝ }
+{
+    let list = p.list;
+    let working = p.working;
+    let c = select::select(
+        first,
+        count,
+        types,
+        items,
+        weights,
+        acceptance,
+        seed,
+        x,
+        working,
+        p.len,
+        mode,
+        n,
+        t,
+    );
+    let entries = c.entries;
+    Progress {
+        working: entries,
+        len: c.len,
+        list: list,
+        emitted: p.emitted,
+        tries: p.tries + c.tries,
+    }
+}
+
+// "Emit appends the working list."
+fn emit(p: Progress) -> Progress
+    requires { ⌜ Room p × (p .emitted + p .len ≤ 32) ⌝ }
+    ensures { λ q. ⌜ ((v : View) (x : ℕ) → runIn q ≡ bareAct v x (runIn p) Action.Emit) × Room q × Stepped p Action.Emit q ⌝ }
+{
+    let working = p.working;
+    let mut list = p.list;
+    let start = p.emitted;
+    let len = p.len;
+    let mut j: usize = 0;
+    while j < len {
+        list[start + j] = working[j];
+        j += 1;
+    }
+    Progress {
+        working: working,
+        len: len,
+        list: list,
+        emitted: start + len,
+        tries: p.tries,
+    }
+}
+
+// One step more.
+fn act<'a>(
+    first: &'a [u32],
+    count: &'a [u32],
+    types: &'a [u32],
+    items: &'a [u32],
+    weights: &'a [u32],
+    acceptance: &'a [u32],
+    seed: u32,
+    x: u32,
+    p: Progress,
+    a: Action,
+) -> Progress
+    requires { ⌜ Sound (now first) (now count) (now types) (now items) (now weights) ⌝ }
+    requires { ⌜ (length (now acceptance) ≡ 1024) × Room p × (p .tries ≤ 1000000) × Doable p a ⌝ }
+    ensures { λ q. ⌜ (runIn q ≡ bareAct
+        (viewFrom seed (now (first .entry)) (now (count .entry)) (now (types .entry)) (now (items .entry)) (now (weights .entry)) (now (acceptance .entry)))
+        x (runIn p) a) × Room q × Stepped p a q ⌝ }
+{
+    match a {
+        Action::Take(b) => take_bucket(p, b),
+        Action::Select(mode, n, t) => selected(
+            first,
+            count,
+            types,
+            items,
+            weights,
+            acceptance,
+            seed,
+            x,
+            p,
+            mode,
+            n,
+            t,
+        ),
+        Action::Emit => emit(p),
+        Action::Idle => p,
+    }
+}
+
+// The first n steps of the rule, for group x.
+pub fn run<'a>(
+    first: &'a [u32],
+    count: &'a [u32],
+    types: &'a [u32],
+    items: &'a [u32],
+    weights: &'a [u32],
+    acceptance: &'a [u32],
+    seed: u32,
+    steps: [Step; 16],
+    n: usize,
+    x: u32,
+) -> Progress
+    requires { ⌜ (n ≤ 16) × Ready seed (now first) (now count) (now types) (now items) (now weights) (now acceptance) (actionsTo steps n) ⌝ }
+    ensures { λ p. ⌜ (runIn p ≡ bareRunTo
+        (viewFrom seed (now (first .entry)) (now (count .entry)) (now (types .entry)) (now (items .entry)) (now (weights .entry)) (now (acceptance .entry)))
+        x (actionsTo steps n) n) × (p .emitted ≤ 32) × (p .emitted ≤ emittedTo (actionsTo steps n) n) ⌝ }
+{
+    let mut p = Progress {
+        working: [walk::HOLE; 16],
+        len: 0,
+        list: [walk::HOLE; 32],
+        emitted: 0,
+        tries: 0,
+    };
+    let mut k: usize = 0;
+    while k < n {
+        let a = actions::action_of(steps[k]);
+        p = act(
+            first,
+            count,
+            types,
+            items,
+            weights,
+            acceptance,
+            seed,
+            x,
+            p,
+            a,
+        );
+        k += 1;
+    }
+    p
+}
+
+// Place i of a row that holds the list: past the list's end a hole.
+fn place_at(list: &[u32], i: usize) -> u16
+    requires { ⌜ Each Small (now list) ⌝ }
+    ensures { λ r. ⌜ r ≡ getD (now (list .entry)) i hole ⌝ }
+{
+    if i < list.len() {
+        return list[i] as u16;
+    }
+    walk::HOLE as u16
+}
+
+// "unused places at the end are ffff"
+fn write_row(list: &[u32], row: &mut [u16])
+    requires { ⌜ Each Small (now list) × (length (now list) ≤ length (now row)) ⌝ }
+    ensures { λ _. ⌜ now (row .exit) ≡ filledUp (length (now (row .entry))) (now (list .entry)) ⌝ }
+{
+    let mut i: usize = 0;
+    while i < row.len() {
+        row[i] = place_at(list, i);
+        i += 1;
+    }
+}
+
+// Writes the list of group x over the whole row, by the first n steps of the rule, and returns its tries.
+pub fn place_row<'a, 'b>(
+    first: &'a [u32],
+    count: &'a [u32],
+    types: &'a [u32],
+    items: &'a [u32],
+    weights: &'a [u32],
+    acceptance: &'a [u32],
+    seed: u32,
+    steps: [Step; 16],
+    n: usize,
+    x: u32,
+    row: &'b mut [u16],
+) -> u32
+    requires { ⌜ (n ≤ 16) × Ready seed (now first) (now count) (now types) (now items) (now weights) (now acceptance) (actionsTo steps n) ⌝ }
+    requires { ⌜ emittedTo (actionsTo steps n) n ≤ length (now row) ⌝ }
+    ensures { λ r. ⌜ (now (row .exit) ≡ filledUp (length (now (row .entry))) (bareRunTo
+        (viewFrom seed (now (first .entry)) (now (count .entry)) (now (types .entry)) (now (items .entry)) (now (weights .entry)) (now (acceptance .entry)))
+        x (actionsTo steps n) n .list)) × (r ≡ bareRunTo
+        (viewFrom seed (now (first .entry)) (now (count .entry)) (now (types .entry)) (now (items .entry)) (now (weights .entry)) (now (acceptance .entry)))
+        x (actionsTo steps n) n .tries) ⌝ }
+{
+    let p = run(
+        first,
+        count,
+        types,
+        items,
+        weights,
+        acceptance,
+        seed,
+        steps,
+        n,
+        x,
+    );
+    let list = p.list;
+    let m = p.emitted;
+    write_row(&list[..m], row);
+    p.tries
+}
