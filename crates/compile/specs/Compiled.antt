@@ -92,7 +92,8 @@ module _ (m : Map) (L : Loadable m) where
           = both (hasBucket m (d .link .bucket)) (hasItem m (d .link .child))
           (mem-every (λ (l : Link). hasBucket m (l .bucket) && hasItem m (l .child)) (d .mem) (present-is m (L .present) .links)) .0 in
           let (k, l, q) = number-at (λ (x : Bucket). x .number) noBucket (d .link .bucket) (m .buckets) h in
-          let n = leb-true (length (childrenOf m (getD (m .buckets) k noBucket .number))) 64 (every-at (λ (x : Bucket). leb (length (childrenOf m (x .number))) 64) (m .buckets) k noBucket (L .narrow) l) in
+          let n = leb-true (length (childrenOf m (getD (m .buckets) k noBucket .number))) 64
+          (every-at (λ (x : Bucket). leb (length (childrenOf m (x .number))) 64) (m .buckets) k noBucket (L .narrow) l) in
           omega (arith, n, ap (λ (x : ℕ). length (childrenOf m x)) (q ∙ d .bucket), ap (λ (l : List ℕ). length l) e)
 
 -- ---- the arrays of a map
@@ -147,7 +148,8 @@ module _ (m : Map) (L : Loadable m) {first count items devices types acceptance 
   child-at : (b j : ℕ) → j < getD count b 0 → List·Memᴰ (getD items (getD first b 0 + j) 0) (childrenOf m b)
   child-at b j h =
       let e : getD (childrenOf m b) j 0 ≡ getD items (getD first b 0 + j) 0
-      = ap (λ (cs : List ℕ). getD cs j 0) (sym (A .children b)) ∙ getD-take (getD count b 0) (drop (getD first b 0) items) j 0 h ∙ getD-drop (getD first b 0) items j 0 in
+      = ap (λ (cs : List ℕ). getD cs j 0) (sym (A .children b))
+      ∙ getD-take (getD count b 0) (drop (getD first b 0) items) j 0 h ∙ getD-drop (getD first b 0) items j 0 in
       subst (λ (c : ℕ). List·Memᴰ c (childrenOf m b)) e (mem-at 0 (childrenOf m b) j (omega (arith, count-is b)))
 
   -- and a draw reads inside them

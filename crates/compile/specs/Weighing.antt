@@ -31,6 +31,7 @@ pub record Child (m : Map) (b c : ℕ) : Type 0 where
   pub ranged : ChildRanged c
   pub falls : typeOf m c < bucketType m b
 
+-- each child is one
 pub child-of : (m : Map) → Loadable m → (b c : ℕ) → List·Memᴰ c (childrenOf m b) → Child m b c
 child-of m L b c n =
     let k : List·Memᴰ c (kidsOf m (bucketItem b)) = rw (kids-bucket m b) n in
@@ -75,9 +76,11 @@ module _ (m : Map) (L : Loadable m) where
   -- where the arrays are the map's
   module _ {first count items devices types : List ℕ} (A : Arranged m first count items) (D : Tabled devices 1024 (deviceWeight m))
       (T : Tabled types 256 (bucketType m)) where
+    -- the arrays together
     abbrev held : Arrays
     held = arrays first count items devices
 
+    -- what is read of them lies within them
     pub within : Within held
     within =
         record { firsts = A .firsts; counts = A .counts; weighted = D .size; inside = λ b. omega (arith, A .within b, A .long); ranged = A .ranged }
@@ -154,5 +157,5 @@ module _ (m : Map) (L : Loadable m) where
     pub fitting : (n : ℕ) → Fitting held types (n + 1) (upTo held types n)
     fitting n b s e =
         let t : bucketType m b ≡ suc n = sym (T .at b) ∙ e ∙ add-one n in
-        rw (add-one n)
-        (omega (arith, load-weight (roundTo held types (suc n) (upTo held types n) b) n b b (known-round (upTo held types n) n b (omega arith) (known n)) t, weight-most m L (bucketItem b)))
+        let k = known-round (upTo held types n) n b (omega arith) (known n) in
+        rw (add-one n) (omega (arith, load-weight (roundTo held types (suc n) (upTo held types n) b) n b b k t, weight-most m L (bucketItem b)))

@@ -83,7 +83,7 @@ fn of_type<'a>(
     loads
 }
 
-// The greatest of the types.
+// The greatest of the types: no round is needed behind it.
 fn top(types: &[u32]) -> u32
     ensures { λ r. ⌜ r ≡ greatest (now (types .entry)) ⌝ }
 {

@@ -24,14 +24,15 @@ old s = mapOf (s .args .t .now)
 abbrev new : tie.Start → Map
 new s = put (old s) (s .args .c)
 
-loads : (s : tie.Start) → Loadable (new s)
-loads s = s .pre .1 .1
+-- the edited map is one that load takes
+loadable : (s : tie.Start) → Loadable (new s)
+loadable s = s .pre .1 .1
 
 reads-old : (s : tie.Start) → Readable (s .args .t .now) (s .args .s) (old s)
 reads-old s = readable (s .args .t .now) (s .args .s) (old s) (s .pre .0) (s .pre .1 .0) (loadable-of (s .args .t .now) (s .pre .0))
 
 reads-new : (s : tie.Start) → Readable (s .args .t .now) (s .args .s) (new s)
-reads-new s = readable (s .args .t .now) (s .args .s) (new s) (s .pre .0) (s .pre .1 .0) (loads s)
+reads-new s = readable (s .args .t .now) (s .args .s) (new s) (s .pre .0) (s .pre .1 .0) (loadable s)
 
 -- the places of the calls that read the text
 abbrev at-children : tie.After-types → tie.After-children-of
@@ -82,7 +83,7 @@ loads-of-requires : tie.Need-loads-of-requires
 loads-of-requires c κs =
     let s = start c in
     let d = at-devices c .devices-of .ensures .0 in
-    ((within (new s) (loads s) (children c) d (types c), types c .size), fitting (new s) (loads s) (children c) d (types c))
+    ((within (new s) (loadable s) (children c) d (types c), types c .size), fitting (new s) (loadable s) (children c) d (types c))
 
 slice-aggregate-weights-of : tie.Need-slice-aggregate-weights-of
 slice-aggregate-weights-of c = search needs
@@ -108,7 +109,10 @@ returns c =
     let s = start p in
     let d = at-devices p .devices-of .ensures in
     let e = shape-steps (s .args .t .now) (s .args .s) (s .pre .1 .0) in
-    (view-is (new s) (loads s) (children p) (d .0) (types p) (d .1) (o .loads-of .ensures) w, (sound-is (new s) (loads s) (children p) (d .0) (types p) (d .1) (o .loads-of .ensures) w, (d .1 .size, (ap (λ (xs : List Step). map actionOf xs) (c .steps-of .ensures), (e, omega (arith, e, bounds (old s) (reads-old s .loadable) .steps))))))
+    let v = view-is (new s) (loadable s) (children p) (d .0) (types p) (d .1) (o .loads-of .ensures) w in
+    let g = sound-is (new s) (loadable s) (children p) (d .0) (types p) (d .1) (o .loads-of .ensures) w in
+    let a = ap (λ (xs : List Step). map actionOf xs) (c .steps-of .ensures) in
+    (v, (g, (d .1 .size, (a, (e, omega (arith, e, bounds (old s) (reads-old s .loadable) .steps))))))
 
 pub compile-spec : {M : Type 1} → statement M
 compile-spec =

@@ -33,7 +33,8 @@ small : (c : tie.After-struct-known Inv-loop μ-loop) → c .before .bucket .res
 small c =
     let l = c .before .before .before in
     let s = l .before .before in
-    omega (arith, bucket-small (mapOf (s .args .t .now)) (s .pre .loadable) (l .loop .k) _ (c .before .before .loop-test .taken) (l .loop .inv .0) (c .before .bucket .ensures))
+    let p = c .before .before .loop-test .taken in
+    omega (arith, bucket-small (mapOf (s .args .t .now)) (s .pre .loadable) (l .loop .k) _ p (l .loop .inv .0) (c .before .bucket .ensures))
 
 cast-i : tie.Need-cast-i Inv-loop μ-loop
 cast-i c = omega (arith, small c)
@@ -51,7 +52,11 @@ loop-again : tie.Need-loop-again Inv-loop μ-loop
 loop-again c =
     let l = c .before .before .before in
     let s = l .before .before in
-    (omega arith, types-more (mapOf (s .args .t .now)) (s .pre .loadable) (l .loop .k) _ (c .before .before .loop-test .taken) (l .loop .inv .0) (c .before .bucket .ensures) (l .loop .types) (l .loop .inv .1))
+    let p = c .before .before .loop-test .taken in (
+      omega arith,
+      types-more (mapOf (s .args .t .now)) (s .pre .loadable) (l .loop .k) _ p (l .loop .inv .0) (c .before .bucket .ensures) (l .loop .types)
+          (l .loop .inv .1),
+    )
 
 returns : tie.Need-returns Inv-loop μ-loop
 returns c =

@@ -75,7 +75,8 @@ returns : tie.Need-returns Inv-loop μ-loop
 returns c =
     let l = c .before in
     let m = edited (l .before .before) in
-    (weights-all m (l .loop .k) (l .loop .weights) (c .loop-test .left) (l .loop .inv .1), acceptances-all m (l .loop .k) (l .loop .acceptances) (c .loop-test .left) (l .loop .inv .2))
+    let h = c .loop-test .left in
+    (weights-all m (l .loop .k) (l .loop .weights) h (l .loop .inv .1), acceptances-all m (l .loop .k) (l .loop .acceptances) h (l .loop .inv .2))
 
 pub devices-of-spec : {M : Type 1} → statement M
 devices-of-spec =

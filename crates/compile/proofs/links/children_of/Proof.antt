@@ -35,7 +35,8 @@ small : (c : tie.After-struct-known Inv-loop μ-loop) → c .before .link .resul
 small c =
     let l = c .before .before .before in
     let s = l .before .before in
-    omega (arith, link-small (mapOf (s .args .t .now)) (s .pre .loadable) (l .loop .k) _ (c .before .before .loop-test .taken) (l .loop .inv .0) (c .before .link .ensures))
+    let p = c .before .before .loop-test .taken in
+    omega (arith, link-small (mapOf (s .args .t .now)) (s .pre .loadable) (l .loop .k) _ p (l .loop .inv .0) (c .before .link .ensures))
 
 -- there is room for each link
 room : (c : tie.After-struct-known Inv-loop μ-loop) → length (mapOf (c .before .before .before .before .before .args .t .now) .links) ≤ 1280
@@ -83,7 +84,8 @@ loop-again c =
     let l = c .before .before .before in
     let m = mapOf (l .before .before .args .t .now) in (
       omega arith,
-      arranged-more (m .links) (l .loop .k) _ (l .loop .first) (l .loop .count) (l .loop .items) (c .before .before .loop-test .taken) (l .loop .inv .0) (room c) (c .before .link .ensures) (omega (arith, small c)) (l .loop .inv .1),
+      arranged-more (m .links) (l .loop .k) _ (l .loop .first) (l .loop .count) (l .loop .items) (c .before .before .loop-test .taken)
+          (l .loop .inv .0) (room c) (c .before .link .ensures) (omega (arith, small c)) (l .loop .inv .1),
     )
 
 returns : tie.Need-returns Inv-loop μ-loop

@@ -49,7 +49,8 @@ loop-again c =
     let s = l .before .before in (
       search needs,
       length-set (l .loop .steps) (l .loop .k) (c .step .result) ∙ l .loop .inv .1,
-      steps-more (mapOf (s .args .t .now) .steps) (l .loop .steps) (l .loop .k) (c .step .result) (omega (arith, counted s)) (omega (arith, room s)) (c .step .ensures) (l .loop .inv .2),
+      steps-more (mapOf (s .args .t .now) .steps) (l .loop .steps) (l .loop .k) (c .step .result) (omega (arith, counted s))
+          (omega (arith, room s)) (c .step .ensures) (l .loop .inv .2),
     )
 
 returns : tie.Need-returns Inv-loop μ-loop

@@ -56,7 +56,8 @@ total-requires c κs =
     let s = start (c .before) in
     let x = getD (s .args .first .now) (s .args .b) 0 in
     let n = x + getD (s .args .count .now) (s .args .b) 0 - x in
-    ((s .pre .0 .0 .weighted, s .pre .0 .1, part-ranged (s .args .items .now) x n (s .pre .0 .0 .ranged)), omega (arith, load-part (held s) (s .args .loads .now) (s .args .b), s .pre .1))
+    let r = part-ranged (s .args .items .now) x n (s .pre .0 .0 .ranged) in
+    ((s .pre .0 .0 .weighted, s .pre .0 .1, r), omega (arith, load-part (held s) (s .args .loads .now) (s .args .b), s .pre .1))
 
 returns : tie.Need-returns
 returns c =

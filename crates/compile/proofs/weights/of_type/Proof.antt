@@ -65,11 +65,13 @@ loop-less c = search needs
 loop-again : tie.Need-loop-again Inv-loop μ-loop
 loop-again c =
     let l = c .before .before .before in
-    let s = start l in (
+    let s = start l in
+    let t = s .args .types .now in
+    let i = l .loop .inv .1 in (
       search needs,
       ⊎-elim
-          (λ w. w .3 ∙ round-taken (held s) (s .args .types .now) (s .args .ty) (l .loop .b) (s .args .t6) (l .loop .loads) (l .loop .inv .1) (w .2 .result) (w .0 .taken) (w .2 .ensures))
-          (λ w. w .1 ∙ round-left (held s) (s .args .types .now) (s .args .ty) (l .loop .b) (s .args .t6) (l .loop .loads) (l .loop .inv .1) (w .0 .left))
+          (λ w. w .3 ∙ round-taken (held s) t (s .args .ty) (l .loop .b) (s .args .t6) (l .loop .loads) i (w .2 .result) (w .0 .taken) (w .2 .ensures))
+          (λ w. w .1 ∙ round-left (held s) t (s .args .ty) (l .loop .b) (s .args .t6) (l .loop .loads) i (w .0 .left))
           (c .if1 .came),
     )
 

@@ -34,7 +34,11 @@ loop-less c = search needs
 loop-again : tie.Need-loop-again Inv-loop μ-loop
 loop-again c =
     let l = c .before .before .before in
-    (search needs, greatest-next (l .before .args .types .now) (l .loop .i) (l .loop .n) _ (l .loop .inv .1) (c .if1 .n) (c .before .before .loop-test .taken) (⊎-elim (λ w. omega arith) (λ w. omega arith) (c .if1 .came)))
+    let p = c .before .before .loop-test .taken in (
+      search needs,
+      greatest-next (l .before .args .types .now) (l .loop .i) (l .loop .n) _ (l .loop .inv .1) (c .if1 .n) p
+          (⊎-elim (λ w. omega arith) (λ w. omega arith) (c .if1 .came)),
+    )
 
 returns : tie.Need-returns Inv-loop μ-loop
 returns c =

@@ -42,7 +42,8 @@ more : (c : tie.After-weight-of Inv-loop μ-loop)
 more c =
     let l = c .before .before .before .loop in
     let s = c .before .before .before .before .before .before .before in
-    sum-next (itemIn (s .args .devices .now) (s .args .loads .now)) (s .args .items .now) (l .i) (l .n) _ (l .inv .1) (c .weight-of .result) (c .before .before .loop-test .taken) (c .weight-of .ensures)
+    sum-next (itemIn (s .args .devices .now) (s .args .loads .now)) (s .args .items .now) (l .i) (l .n) _ (l .inv .1) (c .weight-of .result)
+    (c .before .before .loop-test .taken) (c .weight-of .ensures)
 
 add-n : tie.Need-add-n Inv-loop μ-loop
 add-n c = omega (arith, more c, c .before .before .before .before .before .before .before .pre .1)

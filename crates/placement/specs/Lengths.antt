@@ -1,0 +1,75 @@
+-- How long the lists of a run become: a select puts out at most its count for each entry, and the list is at most what the blocks emit.
+-- Assumes nothing.
+use mathlib.Core.Path.{_≡_, refl, sym, ap, _∙_}
+use mathlib.Core.Bool.{Bool, true, false, cond}
+use mathlib.Core.List.{List, [], _∷_, _++_}
+use Prim.Native.Nat.{ℕ, zero, suc, _+_, _*_, _≤_}
+use native.Mathlib.Omega.{arith}
+use native.Mathlib.Nat.{mul-le-mul-right, le-trans}
+use lib.Dec.{eqb}
+use lib.ListN.{length, getD, replicate, length-append, length-replicate}
+use Rattle.definitions.specs.declared.Mode.{Mode}
+use Rattle.definitions.specs.declared.Mode.the-variants.{FirstN, Independent}
+use Rattle.definitions.specs.declared.Action.{Action}
+use Rattle.definitions.specs.declared.Ranked.{Ranked}
+use Rattle.definitions.specs.declared.Action.the-variants.{Take, Select, Emit, Idle}
+use Rattle.definitions.specs.View.{View}
+use Rattle.definitions.specs.Map.{bucketNumber}
+use Rattle.definitions.specs.Walk.{hole, RankEvents, rankOf}
+use Rattle.blocks.specs.Products.{productAfter, addedBy, productTo, emittedTo}
+use Rattle.placement.specs.Bare.{Bare, entryOut, holesOut, bareWith, bareRank, bareRanks, bareHoles, bareAt, bareTo, bareSelect, BareRun, bareSelected, bareAct, bareRunTo}
+
+one-out : (mode : Mode) (e : ℕ) → length (entryOut mode e) ≤ 1
+unfolding entryOut
+one-out Independent e = omega arith
+one-out FirstN e = go (eqb e hole)
+  where
+    go : (b : Bool) → length (cond b [] (e ∷ [])) ≤ 1
+    go true = omega arith
+    go false = omega arith
+
+holes-out : (mode : Mode) (n : ℕ) → length (holesOut mode n) ≤ n
+unfolding holesOut
+holes-out Independent n = omega (arith, length-replicate n hole)
+holes-out FirstN n = omega arith
+
+module _ (v : View) (x : ℕ) (mode : Mode) (n t : ℕ) where
+  ranks-most : (a : ℕ) (s : Bare) (k : ℕ) → length (bareRanks v x mode n t a s k .entries) ≤ length (s .entries) + k
+  unfolding bareRanks bareRank bareWith
+  ranks-most a s zero = omega arith
+  ranks-most a s (suc k) =
+      let q = bareRanks v x mode n t a s k in
+      let r = rankOf v x mode n t (q .entries) (bucketNumber a) (suc k) (q .f) .ranked in
+      omega (arith, length-append (q .entries) (entryOut mode (r .entry)), one-out mode (r .entry), ranks-most a s k)
+
+  at-most : (a : ℕ) (s : Bare) (b : Bool) → length (bareAt v x mode n t a s b .entries) ≤ length (s .entries) + n
+  unfolding bareAt bareHoles
+  at-most a s true = omega (arith, length-append (s .entries) (holesOut mode n), holes-out mode n)
+  at-most a s false = ranks-most a s n
+
+  to-most : (ws : List ℕ) (k : ℕ) → length (bareTo v x mode n t ws k .entries) ≤ k * n
+  unfolding bareTo
+  to-most ws zero = omega arith
+  to-most ws (suc k) = omega (arith, at-most (getD ws k hole) (bareTo v x mode n t ws k) (eqb (getD ws k hole) hole), to-most ws k)
+
+  select-most : (ws : List ℕ) → length (bareSelect v x mode n t ws .entries) ≤ length ws * n
+  unfolding bareSelect
+  select-most ws = to-most ws (length ws)
+
+module _ (v : View) (x : ℕ) where
+  act-most : (s : BareRun) (a : Action) (p e : ℕ) → length (s .working) ≤ p → length (s .list) ≤ e
+      → (length (bareAct v x s a .working) ≤ productAfter p a) × (length (bareAct v x s a .list) ≤ e + addedBy p a)
+  unfolding bareAct bareSelected productAfter addedBy
+  act-most s (Take b) p e h g = (omega arith, omega arith)
+  act-most s (Select mode n t) p e h g = (le-trans (select-most v x mode n t (s .working)) (mul-le-mul-right n h), omega arith)
+  act-most s Emit p e h g = (h, omega (arith, length-append (s .list) (s .working)))
+  act-most s Idle p e h g = (h, omega arith)
+
+  -- the working list is at most the product of the counts in its block, and the list at most what was emitted
+  pub run-most : (actions : List Action) (k : ℕ)
+      → (length (bareRunTo v x actions k .working) ≤ productTo actions k) × (length (bareRunTo v x actions k .list) ≤ emittedTo actions k)
+  unfolding bareRunTo productTo emittedTo
+  run-most actions zero = (omega arith, omega arith)
+  run-most actions (suc k) =
+      let r = run-most actions k in
+      act-most (bareRunTo v x actions k) (getD actions k Idle) (productTo actions k) (emittedTo actions k) (r .0) (r .1)
