@@ -2,7 +2,8 @@
 -- write.
 use mathlib.Core.List.{List}
 use Prim.Native.Nat.{ℕ}
-use Rattle.definitions.specs.Calls.{WriteAnswer, DayAnswer}
+use Rattle.definitions.specs.Calls.{PlaceAnswer, WriteAnswer, DayAnswer}
+use Rattle.engine.specs.declared.place.Placing.{Placing}
 use Rattle.engine.specs.declared.write.Written.{Written}
 use Rattle.engine.specs.declared.day.Day.{Day}
 
@@ -11,3 +12,6 @@ writeAnswer r space = record { number = r .number; bytes = r .bytes; space = spa
 
 abbrev pub dayAnswer : Day → DayAnswer
 dayAnswer r = record { number = r .number; group = r .group }
+
+abbrev pub placeAnswer : Placing → List ℕ → PlaceAnswer
+placeAnswer r row = record { number = r .number; places = r .places; tries = r .tries; row = row }

@@ -2,4 +2,5 @@
 // zero, and alters nothing.
 pub mod day;
 pub mod load;
+pub mod place;
 pub mod write;

@@ -6,7 +6,7 @@ use native.Mathlib.Omega.{arith}
 use lib.ListN.{length, getD, take, drop, set, replicate, length-append, length-replicate, getD-replicate, drop-of-length-le}
 use Rattle.definitions.specs.Walk.{hole}
 use Rattle.laws.specs.Lists.{front-more, front-all}
-use Rattle.placement.specs.Bare.{filledUp}
+use Rattle.placement.specs.Bare.{BareRun, filledUp}
 
 pub length-filled : (w : ℕ) (es : List ℕ) → length es ≤ w → length (filledUp w es) ≡ w
 unfolding filledUp
@@ -35,3 +35,7 @@ module _ (es t : List ℕ) (h : length es ≤ length t) where
       let f = filledUp (length t) es in
       let k = length-filled (length t) es h in
       q ∙ front-all f t i (omega (arith, k)) ∙ ap (λ (l : List ℕ). f ++ l) (drop-of-length-le t {i = length f} (omega (arith, k))) ∙ append-nil f
+
+-- a row that holds the list of s holds that of r, which is s, and their tries are the same
+pub row-of : (w : ℕ) (row : List ℕ) (s r : BareRun) → s ≡ r → row ≡ filledUp w (s .list) → (row ≡ filledUp w (r .list)) × (s .tries ≡ r .tries)
+row-of w row s r e q = (q ∙ ap (λ (z : BareRun). filledUp w (z .list)) e, ap (λ (z : BareRun). z .tries) e)

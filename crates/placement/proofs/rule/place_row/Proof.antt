@@ -1,15 +1,24 @@
 -- `placement::rule::place_row` meets its contract: the list of the run is written over the row. Assumes nothing.
-use mathlib.Core.Path.{_≡_, sym, ap, _∙_}
+use mathlib.Core.Path.{_≡_, sym}
 use Prim.Native.Nat.{_≤_}
 use native.Mathlib.Omega.{arith}
 use borrow.Author.Needs.{needs}
 use lib.ListN.{length}
 use lib.Seq.{length-take-le}
-use Rattle.placement.specs.Bare.{BareRun, filledUp}
+use Rattle.definitions.specs.View.{View}
+use Rattle.hierarchy.specs.Arrays.{viewFrom}
+use Rattle.placement.specs.Bare.{bareRunTo}
 use Rattle.placement.specs.Working.{list-small}
-use Rattle.placement.specs.Progress.{runIn, length-actions}
+use Rattle.placement.specs.Progress.{actionsTo, runIn, length-actions}
+use Rattle.placement.specs.Row.{row-of}
 use Rattle.placement.proofs.rule.place_row.Statement.{statement}
 use Rattle.placement.proofs.rule.place_row.Tie as tie
+
+-- the view that the slices give
+abbrev view : tie.Start → View
+view s =
+    let a = s .args in
+    viewFrom (a .seed) (a .first .now) (a .count .now) (a .types .now) (a .items .now) (a .weights .now) (a .acceptance .now)
 
 -- the list is within its array
 within : (c : tie.After-run) → c .run .result .emitted ≤ length (c .run .result .list)
@@ -43,9 +52,9 @@ same-length c = search needs
 returns : tie.Need-returns
 returns c =
     let s = c .before .before .before .before .before .before .before .before .before .before .before .before .before .before in
+    let a = s .args in
     let k = c .before .before .before .before .before .before in
-    let e = k .run .ensures .0 in
-    (c .before .before .write-row .ensures ∙ ap (λ (r : BareRun). filledUp (length (s .args .row .now)) (r .list)) e, ap (λ (r : BareRun). r .tries) e)
+    row-of (length (a .row .now)) _ (runIn (k .run .result)) (bareRunTo (view s) (a .x) (actionsTo (a .steps) (a .n)) (a .n)) (k .run .ensures .0) (c .before .before .write-row .ensures)
 
 pub place-row-spec : {M : Type 1} → statement M
 place-row-spec =

@@ -1,10 +1,19 @@
 -- `placement::rule::selected` meets its contract. Assumes nothing.
 use native.Mathlib.Omega.{arith}
 use borrow.Author.Needs.{needs}
+use Rattle.definitions.specs.View.{View}
+use Rattle.hierarchy.specs.Arrays.{viewFrom}
 use Rattle.blocks.specs.Products.{productAfter, addedBy}
+use Rattle.placement.specs.Chosen.{bareIn}
 use Rattle.placement.specs.Progress.{run-select}
 use Rattle.placement.proofs.rule.selected.Statement.{statement}
 use Rattle.placement.proofs.rule.selected.Tie as tie
+
+-- the view that the slices give
+abbrev view : tie.Start → View
+view s =
+    let a = s .args in
+    viewFrom (a .seed) (a .first .now) (a .count .now) (a .types .now) (a .items .now) (a .weights .now) (a .acceptance .now)
 
 select-requires : tie.Need-select-requires
 select-requires c κs = search needs
@@ -16,8 +25,9 @@ returns : tie.Need-returns
 unfolding productAfter addedBy
 returns c =
     let s = c .before .before .before .before .before .before .before .before .before .before .before .before in
+    let a = s .args in
     let k = c .before .before .before .select in
-    (run-select _ _ (s .args .p) _ _ _ _ (k .ensures .0 .0), (omega (arith, k .ensures .0 .1, s .pre .1 .3 .2), omega arith), record { len = k .ensures .0 .1; emitted = omega arith; tries = omega (arith, k .ensures .0 .2) })
+    (run-select (view s) (a .x) (a .p) (a .mode) (a .n) (a .t) (bareIn (k .result)) (k .ensures .0 .0), (omega (arith, k .ensures .0 .1, s .pre .1 .3 .2), omega arith), record { len = k .ensures .0 .1; emitted = omega arith; tries = omega (arith, k .ensures .0 .2) })
 
 pub selected-spec : {M : Type 1} → statement M
 selected-spec = tie.close (tie.spec select-requires add-t17 returns)
