@@ -2,8 +2,9 @@
 -- write.
 use mathlib.Core.List.{List}
 use Prim.Native.Nat.{ℕ}
-use Rattle.definitions.specs.Calls.{PlaceAnswer, WriteAnswer, DayAnswer}
+use Rattle.definitions.specs.Calls.{PlaceAnswer, FillAnswer, WriteAnswer, DayAnswer}
 use Rattle.engine.specs.declared.place.Placing.{Placing}
+use Rattle.engine.specs.declared.fill.Filled.{Filled}
 use Rattle.engine.specs.declared.write.Written.{Written}
 use Rattle.engine.specs.declared.day.Day.{Day}
 
@@ -15,3 +16,6 @@ dayAnswer r = record { number = r .number; group = r .group }
 
 abbrev pub placeAnswer : Placing → List ℕ → PlaceAnswer
 placeAnswer r row = record { number = r .number; places = r .places; tries = r .tries; row = row }
+
+abbrev pub fillAnswer : Filled → List ℕ → FillAnswer
+fillAnswer r table = record { number = r .number; places = r .places; table = table }

@@ -1,19 +1,23 @@
 -- What the arrays compiled from a map's text are good for: placing any group by them gives the map's own list. Assumes nothing.
 use mathlib.Core.Path.{_≡_, refl, sym, ap, ap₂, _∙_, subst}
 use mathlib.Core.List.{List, _++_}
-use Prim.Native.Nat.{ℕ, _+_, _<_, _≤_}
+use Prim.Native.Nat.{ℕ, _+_, _*_, _<_, _≤_}
 use native.Mathlib.Omega.{arith}
 use lib.ListN.{length, getD, drop, length-map}
 use Rattle.definitions.specs.declared.Step.{Step}
+use Rattle.definitions.specs.declared.Change.the-variants.{Malformed}
 use Rattle.definitions.specs.Map.{Map, mapOf, bucketItem, bucketNumber, actionOf, actionsOf}
 use Rattle.definitions.specs.View.{View, viewOf}
 use Rattle.definitions.specs.Select.{entriesOf}
 use Rattle.definitions.specs.Rule.{widthOf, placedOf}
+use Rattle.definitions.specs.Edit.{put}
+use Rattle.definitions.specs.Table.{runsTo, runsOf, tableIn, tableOf}
 use Rattle.definitions.specs.Load.{loadNumber}
-use Rattle.definitions.specs.Calls.{PlaceAnswer, placeOf}
+use Rattle.definitions.specs.Calls.{PlaceAnswer, placeOf, FillAnswer, fillOf}
 use Rattle.laws.specs.Loadable.{Loadable}
 use Rattle.laws.specs.Forest as forest
 use Rattle.text.specs.Agreement.{loaded-map}
+use Rattle.compile.specs.Reading.{no-edit}
 use Rattle.hierarchy.specs.declared.Hierarchy.{Hierarchy}
 use Rattle.hierarchy.specs.Arrays.{viewIn, viewFrom, SoundIn, actionsIn, typeIn}
 use Rattle.descent.specs.Descent as descent
@@ -24,7 +28,8 @@ use Rattle.placement.specs.Bare.{bareRun, list-bare}
 use Rattle.placement.specs.Row.{length-filled}
 use Rattle.placement.specs.Lengths.{run-most}
 use Rattle.placement.specs.Loaded.{ready, width-is}
-use Rattle.engine.specs.Calls.{place-0}
+use Rattle.table.specs.Rows.{rowsTo, length-rows, rows-table}
+use Rattle.engine.specs.Calls.{place-0, fill-0}
 
 -- h is map m in flat arrays
 pub record Compiled (m : Map) (h : Hierarchy) : Type 0 where
@@ -34,6 +39,12 @@ pub record Compiled (m : Map) (h : Hierarchy) : Type 0 where
   pub actions : actionsIn h ≡ actionsOf m
   pub len : h .len ≡ length (m .steps)
   pub few : h .len ≤ 16
+
+-- what `compile` ensures where no edit was given to it
+pub compiled-from : (m : Map) (h : Hierarchy) → viewIn 1315423911 h ≡ viewOf (put m Malformed) → SoundIn h → length (h .acceptance) ≡ 1024
+    → actionsIn h ≡ actionsOf m → (h .len ≡ length (m .steps)) × (h .len ≤ 16) → Compiled m h
+compiled-from m h e s a b n =
+    record { view = e ∙ ap viewOf (no-edit m); sound = s; accepting = a; actions = b; len = n .0; few = n .1 }
 
 module _ (m : Map) (h : Hierarchy) (L : Loadable m) (C : Compiled m h) where
   types-of : TypesOf m (h .types)
@@ -74,3 +85,23 @@ place-done f g row part w n e h p l q r =
     let k : w ≡ length es = p ∙ sym (list-length (mapOf f) (loaded-map f e) g) in
     rw (q, r)
     (ap₂ (λ (a b : ℕ). record { number = 0; places = a; tries = placedOf (mapOf f) g .tries; row = es ++ drop b row }) p k ∙ sym (place-0 f g row e h (rw (← p) l)))
+
+-- what a good call of fill answers
+pub fill-done : (f table out : List ℕ) (h : Hierarchy) (w g k : ℕ) → loadNumber f ≡ 0 → Compiled (mapOf f) h → w ≡ widthOf (mapOf f) → g ≡ mapOf f .groups
+    → k ≡ g * w → k ≤ length table → out ≡ rowsTo (viewIn 1315423911 h) (actionsIn h) (h .len) w g ++ drop (g * w) table
+    → _≡_ {A = FillAnswer} (record { number = 0; places = k; table = out }) (fillOf f table)
+unfolding tableOf runsOf
+fill-done f table out h w g k e C p q i l o =
+    let m = mapOf f in
+    let L = loaded-map f e in
+    let v = viewIn 1315423911 h in
+    let rows : rowsTo v (actionsIn h) (h .len) (widthOf m) (m .groups) ≡ tableIn (runsTo m (m .groups)) =
+    rows-table m v (actionsIn h) (h .len) (C .view) (C .actions) (compiled-length m h L C) (m .groups) in
+    let z : k ≡ m .groups * widthOf m = i ∙ ap₂ _*_ q p in
+    let n : length (tableIn (runsTo m (m .groups))) ≡ m .groups * widthOf m =
+    ap (λ (r : List ℕ). length r) (sym rows) ∙ length-rows v (actionsIn h) (h .len) (widthOf m) (omega (arith, compiled-width m h L C)) (m .groups) in
+    let put : out ≡ tableIn (runsTo m (m .groups)) ++ drop (m .groups * widthOf m) table =
+    o ∙ rw (q, p) (ap (λ (r : List ℕ). r ++ drop (m .groups * widthOf m) table) rows) in
+    ap₂ (λ (a : ℕ) (t : List ℕ). record { number = 0; places = a; table = t }) z
+    (put ∙ ap (λ (a : ℕ). tableIn (runsTo m (m .groups)) ++ drop a table) (sym n))
+    ∙ sym (fill-0 f table e (omega (arith, z)))

@@ -4,14 +4,13 @@ use mathlib.Core.List.{List}
 use Prim.Native.Nat.{ℕ}
 use native.Mathlib.Omega.{arith}
 use Rattle.definitions.specs.Map.{mapOf}
-use Rattle.definitions.specs.View.{viewOf}
 use Rattle.laws.specs.Loadable.{Loadable}
 use Rattle.text.specs.Agreement.{loaded-map}
 use Rattle.compile.specs.Reading.{no-edit}
 use Rattle.hierarchy.specs.Arrays.{viewIn, actionsIn}
 use Rattle.placement.specs.Bare.{filledUp, bareRunTo}
 use Rattle.placement.specs.Loaded.{placed-is}
-use Rattle.engine.specs.Compiled.{Compiled, compiled-ready, compiled-length, compiled-width}
+use Rattle.engine.specs.Compiled.{Compiled, compiled-from, compiled-ready, compiled-length, compiled-width}
 use borrow.Author.Needs.{needs}
 use Rattle.engine.proofs.place.place_into.Statement.{statement}
 use Rattle.engine.proofs.place.place_into.Tie as tie
@@ -21,16 +20,7 @@ loadable : (c : tie.After-compile) → Loadable (mapOf (c .before .before .befor
 loadable c = loaded-map _ (c .before .before .before .pre .0)
 
 compiled : (c : tie.After-compile) → Compiled (mapOf (c .before .before .before .args .map .now)) (c .compile .result)
-compiled c =
-    let e = c .compile .ensures in
-    record {
-      view = e .0 ∙ ap viewOf (no-edit _);
-      sound = e .1 .0;
-      accepting = e .1 .1 .0;
-      actions = e .1 .1 .1 .0;
-      len = e .1 .1 .1 .1 .0;
-      few = e .1 .1 .1 .1 .1;
-    }
+compiled c = let e = c .compile .ensures in compiled-from _ _ (e .0) (e .1 .0) (e .1 .1 .0) (e .1 .1 .1 .0) (e .1 .1 .1 .1)
 
 compile-requires : tie.Need-compile-requires
 compile-requires c κs = let s = c .before .before in (s .pre .0, (s .pre .1, rw (no-edit _) (loaded-map _ (s .pre .0))))
