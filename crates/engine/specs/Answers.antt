@@ -2,7 +2,7 @@
 -- write.
 use mathlib.Core.List.{List}
 use Prim.Native.Nat.{ℕ}
-use Rattle.definitions.specs.Calls.{PlaceAnswer, FillAnswer, WriteAnswer, DayAnswer}
+use Rattle.definitions.specs.Calls.{PlaceAnswer, DaemonAnswer, FillAnswer, WriteAnswer, DayAnswer}
 use Rattle.engine.specs.declared.place.Placing.{Placing}
 use Rattle.engine.specs.declared.fill.Filled.{Filled}
 use Rattle.engine.specs.declared.write.Written.{Written}
@@ -19,3 +19,6 @@ placeAnswer r row = record { number = r .number; places = r .places; tries = r .
 
 abbrev pub fillAnswer : Filled → List ℕ → FillAnswer
 fillAnswer r table = record { number = r .number; places = r .places; table = table }
+
+abbrev pub daemonAnswer : Placing → List ℕ → DaemonAnswer
+daemonAnswer r out = record { number = r .number; places = r .places; tries = r .tries; out = out }

@@ -12,8 +12,10 @@ use Rattle.definitions.specs.Select.{entriesOf}
 use Rattle.definitions.specs.Rule.{widthOf, placedOf}
 use Rattle.definitions.specs.Edit.{put}
 use Rattle.definitions.specs.Table.{runsTo, runsOf, tableIn, tableOf}
+use Rattle.definitions.specs.Lists.{over}
+use Rattle.definitions.specs.Writing.{twoBytes}
 use Rattle.definitions.specs.Load.{loadNumber}
-use Rattle.definitions.specs.Calls.{PlaceAnswer, placeOf, FillAnswer, fillOf}
+use Rattle.definitions.specs.Calls.{PlaceAnswer, placeOf, DaemonAnswer, daemonOf, FillAnswer, fillOf}
 use Rattle.laws.specs.Loadable.{Loadable}
 use Rattle.laws.specs.Forest as forest
 use Rattle.text.specs.Agreement.{loaded-map}
@@ -29,7 +31,7 @@ use Rattle.placement.specs.Row.{length-filled}
 use Rattle.placement.specs.Lengths.{run-most}
 use Rattle.placement.specs.Loaded.{ready, width-is}
 use Rattle.table.specs.Rows.{rowsTo, length-rows, rows-table}
-use Rattle.engine.specs.Calls.{place-0, fill-0}
+use Rattle.engine.specs.Calls.{place-0, daemon-0, fill-0}
 
 -- h is map m in flat arrays
 pub record Compiled (m : Map) (h : Hierarchy) : Type 0 where
@@ -105,3 +107,11 @@ fill-done f table out h w g k e C p q i l o =
     ap₂ (λ (a : ℕ) (t : List ℕ). record { number = 0; places = a; table = t }) z
     (put ∙ ap (λ (a : ℕ). tableIn (runsTo m (m .groups)) ++ drop a table) (sym n))
     ∙ sym (fill-0 f table e (omega (arith, z)))
+
+-- what a good call of the daemon's answers
+pub daemon-done : (f : List ℕ) (g : ℕ) (out new part : List ℕ) (w n : ℕ) → loadNumber f ≡ 0 → g < mapOf f .groups → w ≡ widthOf (mapOf f) → 2 * w ≤ length out
+    → part ≡ entriesOf (placedOf (mapOf f) g .places) → n ≡ placedOf (mapOf f) g .tries → new ≡ over (twoBytes part) out
+    → _≡_ {A = DaemonAnswer} (record { number = 0; places = w; tries = n; out = new }) (daemonOf f g out)
+daemon-done f g out new part w n e h p l q r o =
+    rw (o, q, r) (ap (λ (a : ℕ). record { number = 0; places = a; tries = placedOf (mapOf f) g .tries; out = over (twoBytes (entriesOf (placedOf (mapOf f) g .places))) out }) p
+    ∙ sym (daemon-0 f g out e h (rw (← p) l)))

@@ -1,5 +1,6 @@
 // The engine's callable functions. None has a `requires`: what is lent is asked about first, and a refusal returns its number, counts of
 // zero, and alters nothing.
+pub mod daemon;
 pub mod day;
 pub mod fill;
 pub mod load;

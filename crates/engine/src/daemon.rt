@@ -1,0 +1,74 @@
+// The storage daemon's call, in C: "the map's frames, to which load's questions are put first, the group, and space where each place becomes
+// two bytes, high byte first".
+ghost use mathlib.Core.Path.{_≡_};
+ghost use Prim.Native.Nat.{_*_, _≤_};
+ghost use lib.ListN.{length};
+ghost use Rattle.definitions.specs.Lists.{over};
+ghost use Rattle.definitions.specs.Frames.{framesIn};
+ghost use Rattle.definitions.specs.Map.{mapOf};
+ghost use Rattle.definitions.specs.Select.{entriesOf};
+ghost use Rattle.definitions.specs.Rule.{widthOf, placedOf};
+ghost use Rattle.definitions.specs.Load.{loadNumber};
+ghost use Rattle.text.specs.Shape.{shapeOf};
+ghost use Rattle.definitions.specs.Writing.{twoBytes};
+ghost use Rattle.definitions.specs.Calls.{daemonOf};
+ghost use Rattle.engine.specs.Answers.{daemonAnswer};
+use crate::place;
+use crate::place::Placing;
+use blocks::widths;
+use frames::records;
+use frames::shape;
+use text::Shape;
+
+// Each place as two bytes, over the front of the space.
+fn put_bytes(row: &[u16], out: &mut [u8])
+    requires { ⌜ 2 * length (now row) ≤ length (now out) ⌝ }
+    ensures { λ _. ⌜ now (out .exit) ≡ over (twoBytes (now (row .entry))) (now (out .entry)) ⌝ }
+{
+    let mut i: usize = 0;
+    while i < row.len() {
+        let p = row[i];
+        let a = 2 * i;
+        let b = a + 1;
+        out[a] = (p / 256) as u8;
+        out[b] = (p % 256) as u8;
+        i += 1;
+    }
+}
+
+// The list of group x in bytes over the front of the space; the row is lent to hold its W places.
+fn place_bytes(map: &[u8], s: Shape, x: u32, row: &mut [u16], out: &mut [u8]) -> u32
+    requires { ⌜ (loadNumber (now map) ≡ 0) × (s ≡ shapeOf (framesIn (now map))) × (length (now row) ≡ widthOf (mapOf (now map))) ⌝ }
+    requires { ⌜ 2 * widthOf (mapOf (now map)) ≤ length (now out) ⌝ }
+    ensures { λ r. ⌜ (now (out .exit) ≡ over (twoBytes (entriesOf (placedOf (mapOf (now (map .entry))) x .places))) (now (out .entry)))
+        × (r ≡ placedOf (mapOf (now (map .entry))) x .tries) ⌝ }
+{
+    let tries = place::place_into(map, s, x, row);
+    put_bytes(row, out);
+    tries
+}
+
+#[no_mangle]
+pub extern "C" fn crush_place(map: &[u8], group: u32, out: &mut [u8]) -> Placing
+    ensures { λ r. ⌜ daemonAnswer r (now (out .exit)) ≡ daemonOf (now (map .entry)) group (now (out .entry)) ⌝ }
+{
+    let number = door::load(map);
+    if number != 0 {
+        return place::refused(number);
+    }
+    let s = shape::shape_of(map);
+    if records::groups(map) <= group {
+        return place::refused(15);
+    }
+    let w = widths::width(map, s);
+    if out.len() < 2 * w {
+        return place::refused(16);
+    }
+    let mut row = [0u16; 32];
+    let tries = place_bytes(map, s, group, &mut row[..w], out);
+    Placing {
+        number: 0,
+        places: w as u32,
+        tries,
+    }
+}
