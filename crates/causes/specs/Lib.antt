@@ -1,0 +1,4 @@
+-- The cause of a place between two runs, through a select and through the rule.
+pub mod Told
+pub mod Under
+pub mod Beside
