@@ -1,0 +1,149 @@
+-- The two maps of an edit beside the views and actions that the code runs by: what the code finds is what the definitions say of them.
+-- Assumes nothing.
+use mathlib.Core.Path.{_≡_, refl, sym, ap, ap₂, _∙_}
+use mathlib.Core.Bool.{true}
+use mathlib.Core.List.{List, [], _∷_, _++_}
+use mathlib.Core.Logic.{⊎-elim}
+use Prim.Native.Nat.{ℕ, zero, suc, _*_, _<_, _≤_}
+use native.Mathlib.Omega.{arith}
+use native.Mathlib.Nat.{eq-or-lt-of-le}
+use lib.ListN.{length, getD, take, length-append, List·getD-append}
+use lib.Seq.{getD-at}
+use Rattle.definitions.specs.declared.Action.{Action}
+use Rattle.definitions.specs.Lists.{every, same, joined}
+use Rattle.definitions.specs.Map.{Map, actionsOf}
+use Rattle.definitions.specs.View.{View, viewOf}
+use Rattle.definitions.specs.Select.{Place, entriesOf}
+use Rattle.definitions.specs.Rule.{runTo, widthOf, placedBy, placedOf}
+use Rattle.definitions.specs.Table.{runsTo, runsOf, rowIn, tableIn, tableOf}
+use Rattle.definitions.specs.Edit.{rowMoves, nothingPlaced, movesTo, movesIn, movesOf}
+use Rattle.definitions.specs.Calls.{notFirstN, independent, fresh}
+use Rattle.laws.specs.Loadable.{Loadable, ranged-is}
+use Rattle.tracing.specs.Listed.{table-more, listAt, placed-list, placed-width}
+use Rattle.blocks.specs.Products.{emittedTo}
+use Rattle.placement.specs.Loaded.{width-is}
+use Rattle.survey.specs.declared.surveys.Findings.{Findings}
+use Rattle.survey.specs.Places.{placesAt}
+use Rattle.survey.specs.Surveyed.{rowsTo, movesBy, Surveyed}
+
+-- m and m′ are maps of these views, of one rule, k groups and width w, to which an edit's first questions were answered yes
+pub record Between (v v′ : View) (actions : List Action) (n k w : ℕ) (m m′ : Map) : Type 0 where
+  pub old : viewOf m ≡ v
+  pub new : viewOf m′ ≡ v′
+  pub rule : actionsOf m ≡ actions
+  pub rule′ : actionsOf m′ ≡ actions
+  pub steps : length actions ≡ n
+  pub groups : m .groups ≡ k
+  pub groups′ : m′ .groups ≡ k
+  pub width : widthOf m ≡ w
+  pub width′ : widthOf m′ ≡ w
+  pub loadable : Loadable m
+  pub loadable′ : Loadable m′
+  pub only : independent m ≡ true
+  pub only′ : independent m′ ≡ true
+
+-- ---- one map
+
+-- f gives the places of every group of m
+abbrev Gives : Map → (ℕ → List Place) → Type 0
+Gives m f = (x : ℕ) → f x ≡ placedOf m x .places
+
+places-placed : (m : Map) (v : View) (actions : List Action) (n w : ℕ) → viewOf m ≡ v → actionsOf m ≡ actions → length actions ≡ n → widthOf m ≡ w
+    → Gives m (placesAt v actions n w)
+unfolding placesAt placedOf placedBy
+places-placed m v actions n w a b c d x = rw (← a, ← d, ← c, ← b) refl
+
+module _ (m : Map) (f : ℕ → List Place) (is : Gives m f) where
+  rows-table : (n : ℕ) → rowsTo f n ≡ tableIn (runsTo m n)
+  unfolding rowsTo runsTo rowIn tableIn joined
+  rows-table zero = refl
+  rows-table (suc n) = ap₂ (λ (a : List ℕ) (b : List Place). a ++ entriesOf b) (rows-table n) (is n) ∙ sym (table-more (runsTo m n) (placedOf m n))
+
+-- the runs of all groups
+runs-count : (m : Map) (n : ℕ) → length (runsTo m n) ≡ n
+unfolding runsTo
+runs-count m zero = refl
+runs-count m (suc n) = length-append (runsTo m n) (placedOf m n ∷ []) ∙ omega (arith, runs-count m n)
+
+runs-at : (m : Map) (n g : ℕ) → g < n → getD (runsTo m n) g nothingPlaced ≡ placedOf m g
+unfolding runsTo
+runs-at m zero g h = absurd (omega arith)
+runs-at m (suc n) g h =
+    ⊎-elim
+    (λ (e : g ≡ n). getD-at (runsTo m n) (placedOf m n) [] nothingPlaced g (runs-count m n ∙ sym e) ∙ ap (placedOf m) (sym e))
+    (λ (l : g < n). List·getD-append (runsTo m n) (placedOf m n ∷ []) nothingPlaced g (omega (arith, runs-count m n)) ∙ runs-at m n g l)
+    (eq-or-lt-of-le (omega arith))
+
+moves-to : (m m′ : Map) (f f′ : ℕ → List Place) → Gives m f → Gives m′ f′ → (w k n : ℕ) → n ≤ k
+    → movesBy w f f′ n ≡ movesTo w (runsTo m k) (runsTo m′ k) n
+unfolding movesBy movesTo rowMoves
+moves-to m m′ f f′ a b w k zero h = refl
+moves-to m m′ f f′ a b w k (suc n) h =
+    rw (moves-to m m′ f f′ a b w k n (omega arith), runs-at m k n (omega arith), runs-at m′ k n (omega arith), a n, b n) refl
+
+list-long : (m : Map) (v : View) (actions : List Action) (n w : ℕ) → viewOf m ≡ v → actionsOf m ≡ actions → length actions ≡ n → widthOf m ≡ w
+    → Loadable m → independent m ≡ true → (x : ℕ) → length (runTo v x actions n .list) ≡ w
+unfolding listAt
+list-long m v actions n w a b c d L i x = rw (← a, ← c, ← b) (sym (ap length (placed-list m x L i)) ∙ placed-width m x L i ∙ d)
+
+-- ---- both maps
+
+module _ {v v′ : View} {actions : List Action} {n groups w : ℕ} (m m′ : Map) (B : Between v v′ actions n groups w m m′) where
+  gives : Gives m (placesAt v actions n w)
+  gives = places-placed m v actions n w (B .old) (B .rule) (B .steps) (B .width)
+
+  gives′ : Gives m′ (placesAt v′ actions n w)
+  gives′ = places-placed m′ v′ actions n w (B .new) (B .rule′) (B .steps) (B .width′)
+
+  -- the rows are the tables
+  pub old-table : rowsTo (placesAt v actions n w) groups ≡ tableOf m
+  unfolding tableOf runsOf
+  old-table = rows-table m (placesAt v actions n w) gives groups ∙ ap (λ (k : ℕ). tableIn (runsTo m k)) (sym (B .groups))
+
+  pub new-table : rowsTo (placesAt v′ actions n w) groups ≡ tableOf m′
+  unfolding tableOf runsOf
+  new-table = rows-table m′ (placesAt v′ actions n w) gives′ groups ∙ ap (λ (k : ℕ). tableIn (runsTo m′ k)) (sym (B .groups′))
+
+  -- and the moves are the moves
+  pub moves-are : movesBy w (placesAt v actions n w) (placesAt v′ actions n w) groups ≡ movesOf m m′
+  unfolding movesOf movesIn runsOf
+  moves-are =
+      moves-to m m′ (placesAt v actions n w) (placesAt v′ actions n w) gives gives′ w groups groups (omega arith)
+      ∙ ap (movesTo w (runsTo m groups) (runsTo m′ groups)) (sym (runs-count m groups))
+      ∙ ap₂ (λ (i j : ℕ). movesTo w (runsTo m i) (runsTo m′ j) (length (runsTo m i))) (sym (B .groups)) (sym (B .groups′))
+      ∙ ap (λ (k : ℕ). movesTo k (runsTo m (m .groups)) (runsTo m′ (m′ .groups)) (length (runsTo m (m .groups)))) (sym (B .width))
+
+  -- every list is w long
+  pub old-long : (x : ℕ) → length (runTo v x actions n .list) ≡ w
+  old-long = list-long m v actions n w (B .old) (B .rule) (B .steps) (B .width) (B .loadable) (B .only)
+
+  pub new-long : (x : ℕ) → length (runTo v′ x actions n .list) ≡ w
+  new-long = list-long m′ v′ actions n w (B .new) (B .rule′) (B .steps) (B .width′) (B .loadable′) (B .only′)
+
+  -- what the code asks of the rule, the width and the groups
+  pub emitted : emittedTo actions n ≤ w
+  emitted = rw (← B .steps, ← B .rule, ← B .width) (omega (arith, width-is m (B .loadable) .0))
+
+  pub narrow : w ≤ 32
+  narrow = omega (arith, width-is m (B .loadable) .1, B .width)
+
+  pub few : groups ≤ 65536
+  few = omega (arith, ranged-is m (B .loadable .ranged) .most, B .groups)
+
+  pub selects : every notFirstN actions ≡ true
+  unfolding independent
+  selects = rw (← B .rule) (B .only)
+
+-- what a survey answers of the two maps
+pub record Answers (m m′ : Map) (table : List ℕ) (s : Findings) : Type 0 where
+  pub fresh : s .fresh ≡ fresh m (runsOf m) table
+  pub moves : s .fresh ≡ true → s .moves ≡ length (movesOf m m′)
+
+pub answers : {v v′ : View} {actions : List Action} {n groups w : ℕ} {table : List ℕ} {s : Findings}
+    → Surveyed w (placesAt v actions n w) (placesAt v′ actions n w) groups table s → (m m′ : Map) → Between v v′ actions n groups w m m′ → Answers m m′ table s
+unfolding fresh tableOf
+answers {groups = groups} {w = w} {table = table} f m m′ B =
+    record {
+      fresh = f .fresh ∙ ap₂ (λ (k : ℕ) (t : List ℕ). same (take k table) t) (ap₂ (λ (a b : ℕ). a * b) (sym (B .groups)) (sym (B .width))) (old-table m m′ B);
+      moves = λ e. f .moves e ∙ ap length (moves-are m m′ B);
+    }

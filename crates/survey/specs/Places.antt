@@ -1,0 +1,76 @@
+-- The places of a group by the code's run, and what a look at a group finds. Assumes nothing.
+use mathlib.Core.Path.{_≡_, refl, sym, ap, ap₂, _∙_, subst}
+use mathlib.Core.Bool.{Bool, true, false, not, false≢true}
+use mathlib.Core.List.{List, [], _∷_, _++_}
+use Prim.Native.Nat.{ℕ, zero, suc, _-_, _≤_}
+use native.Mathlib.Omega.{arith}
+use lib.ListN.{length, take, drop, replicate, length-map}
+use lib.Seq.{take-at, length-take-le}
+use Rattle.definitions.specs.declared.Action.{Action}
+use Rattle.definitions.specs.Lists.{same}
+use Rattle.definitions.specs.View.{View}
+use Rattle.definitions.specs.Walk.{hole}
+use Rattle.definitions.specs.Select.{Place, entriesOf, nowhere}
+use Rattle.definitions.specs.Rule.{runTo, padded}
+use Rattle.definitions.specs.Edit.{rowMovesTo}
+use Rattle.placement.specs.Bare.{BareRun, bareRunTo, filledUp, run-bare}
+use Rattle.survey.specs.declared.looks.Glance.{Glance}
+use Rattle.survey.specs.declared.looks.Glance.the-variants.{Stale, Moves}
+use Rattle.survey.specs.Rows.{differTo, differ-moves, same-is}
+
+-- the w places of group x, by the first n actions
+unfoldable pub placesAt : View → List Action → ℕ → ℕ → ℕ → List Place
+placesAt v actions n w x = padded w (runTo v x actions n .list)
+
+length-entries : (ps : List Place) → length (entriesOf ps) ≡ length ps
+unfolding entriesOf
+length-entries ps = length-map ps (λ (p : Place). p .entry)
+
+entries-padded : (ps : List Place) (k : ℕ) → entriesOf (ps ++ replicate k nowhere) ≡ entriesOf ps ++ replicate k hole
+unfolding entriesOf nowhere
+entries-padded [] zero = refl
+entries-padded [] (suc k) = ap (λ (l : List ℕ). hole ∷ l) (entries-padded [] k)
+entries-padded (p ∷ ps) k = ap (λ (l : List ℕ). p .entry ∷ l) (entries-padded ps k)
+
+row-is : (v : View) (actions : List Action) (n w x : ℕ) → filledUp w (bareRunTo v x actions n .list) ≡ entriesOf (placesAt v actions n w x)
+unfolding placesAt padded filledUp
+row-is v actions n w x =
+    let s = runTo v x actions n .list in
+    let q : bareRunTo v x actions n .list ≡ entriesOf s = sym (ap (λ (r : BareRun). r .list) (run-bare v x actions n)) in
+    rw (q, length-entries s) (sym (entries-padded s (w - length s)))
+
+-- w places written at the front of an array, now a, are their entries
+pub row-taken : (v : View) (actions : List Action) (n w x : ℕ) (a zs : List ℕ) → w ≤ length zs → length a ≡ length (take w zs)
+    → a ≡ filledUp (length (take w zs)) (bareRunTo v x actions n .list) → take w (a ++ drop w zs) ≡ entriesOf (placesAt v actions n w x)
+row-taken v actions n w x a zs h l e =
+    let k = length-take-le w zs h in
+    take-at a (drop w zs) w (l ∙ k) ∙ e ∙ ap (λ (i : ℕ). filledUp i (bareRunTo v x actions n .list)) k ∙ row-is v actions n w x
+
+-- what was found of a group whose old and new places these are, and of its row of the table
+abbrev pub Looked : List Place → List Place → ℕ → ℕ → List ℕ → Glance → Type 0
+Looked ps qs w x row Stale = (same row (entriesOf ps) ≡ false) × (length (entriesOf ps) ≡ w)
+Looked ps qs w x row (Moves k) = (row ≡ entriesOf ps) × (k ≡ length (rowMovesTo x ps qs w)) × (k ≤ 32)
+
+-- few places move
+pub few-moves : (ps qs : List Place) (w x : ℕ) (row : List ℕ) (o : Glance) (k : ℕ) → Looked ps qs w x row o → o ≡ Moves k → k ≤ 32
+few-moves ps qs w x row o k l e = subst (Looked ps qs w x row) e l .2
+
+untrue : (b : Bool) → not b ≡ true → b ≡ false
+untrue true e = absurd (false≢true e)
+untrue false e = refl
+
+unfalse : (b : Bool) → not b ≡ false → b ≡ true
+unfalse true e = refl
+unfalse false e = absurd (false≢true (sym e))
+
+pub looked-stale : (ps qs : List Place) (w x : ℕ) (row old : List ℕ) (r : Bool) → length old ≡ w → old ≡ entriesOf ps → r ≡ same row old → not r ≡ true
+    → Looked ps qs w x row Stale
+looked-stale ps qs w x row old r l e q f = (ap (same row) (sym e) ∙ sym q ∙ untrue r f, ap length (sym e) ∙ l)
+
+pub looked-moves : (ps qs : List Place) (w x k : ℕ) (row old new : List ℕ) (r : Bool) → length row ≡ w → old ≡ entriesOf ps → r ≡ same row old → not r ≡ false
+    → length new ≡ w → new ≡ entriesOf qs → k ≡ differTo row new (length row) → k ≤ 32 → Looked ps qs w x row (Moves k)
+looked-moves ps qs w x k row old new r l e q t l′ e′ c h =
+    let i : row ≡ entriesOf ps = same-is row old (sym q ∙ unfalse r t) ∙ e in
+    let a : length ps ≡ w = sym (length-entries ps) ∙ ap length (sym i) ∙ l in
+    let b : length qs ≡ w = sym (length-entries qs) ∙ ap length (sym e′) ∙ l′ in
+    (i, c ∙ ap₂ (λ (y z : List ℕ). differTo y z (length row)) i e′ ∙ ap (differTo (entriesOf ps) (entriesOf qs)) l ∙ differ-moves x ps qs w (omega arith) (omega arith), h)
