@@ -1,0 +1,2 @@
+-- What the program's proofs need of the table that it prints.
+pub mod Printed

@@ -1,0 +1,84 @@
+-- A line as it is written from its first digit on. Assumes nothing.
+use mathlib.Core.Path.{_≡_, refl, sym, ap, _∙_}
+use mathlib.Core.List.{List, [], _∷_, _++_, append-nil, append-assoc, map, map-append}
+use Prim.Native.Nat.{ℕ, zero, suc, _+_, _*_, _<_}
+use native.Mathlib.Omega.{arith}
+use native.Mathlib.Numerals.{add-one}
+use borrow.Rule.Slice.PartMut.{putMid}
+use lib.ListN.{length, getD, drop, take, set, length-append, drop-of-length-le}
+use lib.Seq.{take-at, drop-at, drop-drop, drop-cons, set-at, take-suc}
+use Rattle.definitions.specs.Lists.{joined}
+use Rattle.definitions.specs.Frames.{hex}
+use Rattle.text.specs.Digits.{length-hex}
+use Rattle.report.specs.Lines.{rowLine, refusalLine}
+
+-- of the space t, now xs, the first n bytes are written: they are f
+pub record Front (t xs f : List ℕ) (n : ℕ) : Type 0 where
+  pub whole : xs ≡ f ++ drop n t
+  pub long : length f ≡ n
+
+pub front-none : (t : List ℕ) → Front t t [] 0
+front-none t = record { whole = refl; long = refl }
+
+-- w bytes more: m of them were lent, and are now g
+pub front-part : {t xs f : List ℕ} {n : ℕ} (w m : ℕ) (g ys : List ℕ) → Front t xs f n → m ≡ w → length g ≡ w → ys ≡ g
+    → Front t (putMid n m xs ys) (f ++ g) (n + w)
+front-part {t} {xs} {f} {n} w m g ys h p l q =
+    record {
+      whole = rw (h .whole, q, p, take-at f (drop n t) n (h .long), drop-at f (drop n t) n (h .long), drop-drop w n t) (sym (append-assoc f g (drop (n + w) t)));
+      long = length-append f g ∙ omega (arith, h .long, l);
+    }
+
+-- a field of w digits more: k bytes are what the callee saw
+pub front-field : {t xs f : List ℕ} {n : ℕ} (w k v : ℕ) (ys : List ℕ) → Front t xs f n → k ≡ w → ys ≡ hex k v
+    → Front t (putMid n w xs ys) (f ++ hex w v) (n + w)
+front-field w k v ys h p q = front-part w w (hex w v) ys h refl (length-hex w v) (q ∙ ap (λ (j : ℕ). hex j v) p)
+
+-- all of the space is written
+pub front-all : {t xs f : List ℕ} (n : ℕ) → Front t xs f n → length t ≡ n → xs ≡ f
+front-all {t} {xs} {f} n h l = h .whole ∙ rw (drop-of-length-le t {i = n} (omega arith)) (append-nil f)
+
+-- the byte 10 behind all digits fills the space
+pub front-end : {t xs f : List ℕ} (n : ℕ) → Front t xs f n → length t ≡ n + 1 → set xs n 10 ≡ f ++ (10 ∷ [])
+front-end {t} {xs} {f} n h l =
+    rw (h .whole, drop-cons t n 0 (omega arith), drop-of-length-le t {i = suc n} (omega arith))
+    (set-at f (getD t n 0) [] 10 n (h .long))
+
+-- ---- the row of a group
+
+joined-append : (xs ys : List (List ℕ)) → joined (xs ++ ys) ≡ joined xs ++ joined ys
+unfolding joined
+joined-append [] ys = refl
+joined-append (x ∷ xs) ys = rw (joined-append xs ys) (sym (append-assoc x (joined xs) (joined ys)))
+
+places-more : (row : List ℕ) (i : ℕ) → i < length row → joined (map (hex 4) (take (i + 1) row)) ≡ joined (map (hex 4) (take i row)) ++ hex 4 (getD row i 0)
+unfolding joined
+places-more row i h =
+    rw (add-one, take-suc row i 0 h, map-append (hex 4) (take i row) (getD row i 0 ∷ []), joined-append (map (hex 4) (take i row)) (map (hex 4) (getD row i 0 ∷ [])), append-nil (hex 4 (getD row i 0)))
+
+-- one place more: m bytes were asked for, and k were lent
+pub front-place : {t xs : List ℕ} {n : ℕ} (row : List ℕ) (i m k v : ℕ) (ys : List ℕ) → i < length row → m ≡ 4 → k ≡ 4 → v ≡ getD row i 0 → ys ≡ hex k v
+    → Front t xs (joined (map (hex 4) (take i row))) n → Front t (putMid n m xs ys) (joined (map (hex 4) (take (i + 1) row))) (n + 4)
+front-place row i m k v ys h p q r e f =
+    rw (places-more row i h) (front-part 4 m (hex 4 (getD row i 0)) ys f p (length-hex 4 (getD row i 0)) (e ∙ rw (q, r)))
+
+pub length-places : (row : List ℕ) → length (joined (map (hex 4) row)) ≡ 4 * length row
+unfolding joined
+length-places [] = refl
+length-places (v ∷ row) = length-append (hex 4 v) (joined (map (hex 4) row)) ∙ omega (arith, length-hex 4 v, length-places row)
+
+-- the whole line
+pub row-end : {t xs : List ℕ} (group : ℕ) (row : List ℕ) (n : ℕ) → Front t xs ([] ++ hex 2 17 ++ hex 8 group ++ joined (map (hex 4) row)) n → length t ≡ n + 1
+    → set xs n 10 ≡ rowLine group row
+row-end group row n f l = front-end n f l ∙ simp append-assoc
+
+pub length-row : (group : ℕ) (row : List ℕ) → length (rowLine group row) ≡ 11 + 4 * length row
+length-row group row = simp (length-append, length-hex, length-places) (omega arith)
+
+-- ---- a refusal
+
+pub refusal-end : {t xs : List ℕ} (number : ℕ) → Front t xs ([] ++ hex 2 31 ++ hex 2 number) 4 → length t ≡ 5 → set xs 4 10 ≡ refusalLine number
+refusal-end number f l = front-end 4 f l ∙ simp append-assoc
+
+pub length-refusal : (number : ℕ) → length (refusalLine number) ≡ 5
+length-refusal number = simp (length-append, length-hex)

@@ -1,0 +1,13 @@
+-- Document 01, "Samples": the lines that program `fill` prints.
+use mathlib.Core.List.{List, [], _∷_, _++_, map}
+use Prim.Native.Nat.{ℕ}
+use Rattle.definitions.specs.Lists.{joined}
+use Rattle.definitions.specs.Frames.{hex}
+
+-- "It prints a frame `11`, group (8) and W places (4 each), per group"
+abbrev pub rowLine : ℕ → List ℕ → List ℕ
+rowLine group row = hex 2 17 ++ (hex 8 group ++ (joined (map (hex 4) row) ++ (10 ∷ [])))
+
+-- "`1f` and the refusal (2)"
+abbrev pub refusalLine : ℕ → List ℕ
+refusalLine number = hex 2 31 ++ (hex 2 number ++ (10 ∷ []))

@@ -1,0 +1,3 @@
+// Document 01, "Samples": which of its input program `fill` takes as the map, and the lines that it prints.
+pub mod input;
+pub mod lines;
