@@ -2,9 +2,10 @@
 -- write.
 use mathlib.Core.List.{List}
 use Prim.Native.Nat.{ℕ}
-use Rattle.definitions.specs.Calls.{PlaceAnswer, DaemonAnswer, FillAnswer, WriteAnswer, DayAnswer}
+use Rattle.definitions.specs.Calls.{PlaceAnswer, DaemonAnswer, FillAnswer, EditAnswer, WriteAnswer, DayAnswer}
 use Rattle.engine.specs.declared.place.Placing.{Placing}
 use Rattle.engine.specs.declared.fill.Filled.{Filled}
+use Rattle.engine.specs.declared.edit.Edited.{Edited}
 use Rattle.engine.specs.declared.write.Written.{Written}
 use Rattle.engine.specs.declared.day.Day.{Day}
 
@@ -22,3 +23,6 @@ fillAnswer r table = record { number = r .number; places = r .places; table = ta
 
 abbrev pub daemonAnswer : Placing → List ℕ → DaemonAnswer
 daemonAnswer r out = record { number = r .number; places = r .places; tries = r .tries; out = out }
+
+abbrev pub editAnswer : Edited → List ℕ → List ℕ → List ℕ → EditAnswer
+editAnswer r frames table space = record { number = r .number; moves = r .moves; frames = frames; table = table; space = space }

@@ -2,6 +2,7 @@
 // zero, and alters nothing.
 pub mod daemon;
 pub mod day;
+pub mod edit;
 pub mod fill;
 pub mod load;
 pub mod place;

@@ -1,0 +1,103 @@
+-- Question 18: an edit that fits, and where its device stands. Assumes nothing.
+use mathlib.Core.Path.{_≡_, refl, sym, ap, subst, _∙_}
+use mathlib.Core.Bool.{Bool, true, false, _&&_, _||_}
+use mathlib.Core.List.{List, [], _∷_}
+use Prim.Native.Nat.{ℕ, zero, suc, _<_, _≤_}
+use native.Mathlib.Omega.{arith}
+use lib.Dec.{leb, eqb}
+use lib.ListN.{length, getD}
+use borrow.Author.Tests.{eq-eqb, le-leb, lt-leb}
+use Rattle.definitions.specs.declared.Device.{Device}
+use Rattle.definitions.specs.declared.Change.{Change}
+use Rattle.definitions.specs.declared.Change.the-variants.{Acceptance, Weight, Malformed}
+use Rattle.definitions.specs.Lists.{someOf}
+use Rattle.definitions.specs.Map.{Map}
+use Rattle.definitions.specs.Load.{rising, hasDevice}
+use Rattle.definitions.specs.Edit.{put}
+use Rattle.definitions.specs.Writing.{mapText}
+use Rattle.definitions.specs.Calls.{fits}
+use Rattle.text.specs.Records.{noDevice}
+use Rattle.text.specs.Edit as texts
+use Rattle.text.specs.Edit.{withDevice, accepting, weighing, Edited}
+use Rattle.frames.specs.declared.edit_frame.Found.{Found}
+use Rattle.frames.specs.declared.edit_frame.Found.the-variants.{At, Missing}
+use Rattle.frames.specs.Found.{FoundIs}
+
+-- the device at k is the edit's
+unfoldable pub PlaceOf : Map → Change → ℕ → Type 0
+PlaceOf m (Acceptance d v) k = (k < length (m .devices)) × (getD (m .devices) k noDevice .number ≡ d)
+PlaceOf m (Weight d v) k = (k < length (m .devices)) × (getD (m .devices) k noDevice .number ≡ d)
+PlaceOf m Malformed k = ⊥
+
+-- what is found where an edit is asked for
+unfoldable pub Fitted : Map → Change → Found → Type 0
+Fitted m c (At k) = (fits m c ≡ true) × PlaceOf m c k
+Fitted m c Missing = fits m c ≡ false
+
+or-yes : (a : Bool) {b : Bool} → b ≡ true → a || b ≡ true
+or-yes true e = refl
+or-yes false e = e
+
+some-at : (xs : List Device) (k d : ℕ) → k < length xs → getD xs k noDevice .number ≡ d → someOf (λ (e : Device). eqb (e .number) d) xs ≡ true
+unfolding someOf
+some-at [] k d h e = absurd (omega arith)
+some-at (x ∷ xs) zero d h e = rw (eq-eqb (x .number) d e)
+some-at (x ∷ xs) (suc k) d h e = or-yes (eqb (x .number) d) (some-at xs k d (omega arith) e)
+
+and-no : (b : Bool) → b && false ≡ false
+and-no true = refl
+and-no false = refl
+
+module _ (m : Map) (c : Change) (d v : ℕ) where
+  pub accepts-found : (f : Found) → c ≡ Acceptance d v → v ≤ 65536 → FoundIs m d f → Fitted m c f
+  unfolding Fitted PlaceOf FoundIs fits hasDevice
+  accepts-found (At k) e h p = rw e (rw (some-at (m .devices) k d (p .0) (p .1), le-leb v 65536 h), p)
+  accepts-found Missing e h p = rw (e, p)
+
+  pub weighs-found : (f : Found) → c ≡ Weight d v → v ≤ 65535 → FoundIs m d f → Fitted m c f
+  unfolding Fitted PlaceOf FoundIs fits hasDevice
+  weighs-found (At k) e h p = rw e (rw (some-at (m .devices) k d (p .0) (p .1), le-leb v 65535 h), p)
+  weighs-found Missing e h p = rw (e, p)
+
+  pub accepts-none : c ≡ Acceptance d v → 65536 < v → Fitted m c Missing
+  unfolding Fitted fits
+  accepts-none e h = rw (e, lt-leb v 65536 h) (and-no (hasDevice m d))
+
+  pub weighs-none : c ≡ Weight d v → 65535 < v → Fitted m c Missing
+  unfolding Fitted fits
+  weighs-none e h = rw (e, lt-leb v 65535 h) (and-no (hasDevice m d))
+
+  module _ (k : ℕ) (p : PlaceOf m c k) where
+    pub accepts-at : c ≡ Acceptance d v → (k < length (m .devices)) × (getD (m .devices) k noDevice .number ≡ d)
+    unfolding PlaceOf
+    accepts-at e = subst (λ (x : Change). PlaceOf m x k) e p
+
+    pub weighs-at : c ≡ Weight d v → (k < length (m .devices)) × (getD (m .devices) k noDevice .number ≡ d)
+    unfolding PlaceOf
+    weighs-at e = subst (λ (x : Change). PlaceOf m x k) e p
+
+    -- the text with the value written
+    pub accepts-put : (u : List ℕ) → c ≡ Acceptance d v → rising m ≡ true → Edited u (withDevice k (accepting (getD (m .devices) k noDevice) v) m) → u ≡ mapText (put m c)
+    accepts-put u e r E =
+        E .text ∙ ap mapText (texts.put-acceptance m k d v r (accepts-at e .0) (accepts-at e .1)) ∙ ap (λ (x : Change). mapText (put m x)) (sym e)
+
+    pub weighs-put : (u : List ℕ) → c ≡ Weight d v → rising m ≡ true → Edited u (withDevice k (weighing (getD (m .devices) k noDevice) v) m) → u ≡ mapText (put m c)
+    weighs-put u e r E =
+        E .text ∙ ap mapText (texts.put-weight m k d v r (weighs-at e .0) (weighs-at e .1)) ∙ ap (λ (x : Change). mapText (put m x)) (sym e)
+
+pub malformed-none : (m : Map) (c : Change) → c ≡ Malformed → Fitted m c Missing
+unfolding Fitted fits
+malformed-none m c e = rw e
+
+pub malformed-nowhere : (m : Map) (c : Change) (k : ℕ) → c ≡ Malformed → PlaceOf m c k → ⊥
+unfolding PlaceOf
+malformed-nowhere m c k e p = subst (λ (x : Change). PlaceOf m x k) e p
+
+-- what a search says where it found the device, and where it did not
+pub fitted-at : (m : Map) (c : Change) (f : Found) (k : ℕ) → f ≡ At k → Fitted m c f → (fits m c ≡ true) × PlaceOf m c k
+unfolding Fitted
+fitted-at m c f k e p = subst (Fitted m c) e p
+
+pub fitted-none : (m : Map) (c : Change) (f : Found) → f ≡ Missing → Fitted m c f → fits m c ≡ false
+unfolding Fitted
+fitted-none m c f e p = subst (Fitted m c) e p

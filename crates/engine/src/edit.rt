@@ -1,0 +1,215 @@
+// Editing a drive: "A good edit makes its value the device's acceptance or weight".
+ghost use mathlib.Core.Path.{_≡_};
+ghost use mathlib.Core.Bool.{true};
+ghost use mathlib.Core.List.{List};
+ghost use Prim.Native.Nat.{ℕ, _*_, _≤_};
+ghost use lib.ListN.{length};
+ghost use Rattle.definitions.specs.Frames.{framesIn};
+ghost use Rattle.definitions.specs.Map.{mapOf};
+ghost use Rattle.definitions.specs.Rule.{widthOf};
+ghost use Rattle.definitions.specs.Load.{loadNumber};
+ghost use Rattle.definitions.specs.Edit.{changeOf, put};
+ghost use Rattle.definitions.specs.Writing.{mapText};
+ghost use Rattle.definitions.specs.Calls.{independent, fits, editOf};
+ghost use Rattle.text.specs.Shape.{shapeOf};
+ghost use Rattle.text.specs.RoundTrip.{Framed};
+ghost use Rattle.engine.specs.Answers.{editAnswer};
+ghost use Rattle.engine.specs.Fitting.{Fitted, PlaceOf};
+ghost use Rattle.engine.specs.Paired.{Paired};
+use crate::day;
+use blocks::independent;
+use blocks::widths;
+use compile::buckets;
+use compile::links;
+use compile::steps;
+use definitions::Change;
+use definitions::Step;
+use frames::edit_frame;
+use frames::edit_frame::Found;
+use frames::records;
+use frames::shape;
+use survey::applies;
+use survey::surveys;
+use text::Shape;
+
+// The number of the first question answered no, or 0, and how many places moved.
+pub struct Edited {
+    pub number: u32,
+    pub moves: u32,
+}
+
+// A map in flat arrays before an edit and after it: children, types and steps are the same.
+pub struct Pair {
+    pub first: [u32; 256],
+    pub count: [u32; 256],
+    pub types: [u32; 256],
+    pub items: [u32; 1280],
+    pub weights: [u32; 1280],
+    pub acceptance: [u32; 1024],
+    pub weights2: [u32; 1280],
+    pub acceptance2: [u32; 1024],
+    pub steps: [Step; 16],
+}
+
+// A refusal: its number and no moves.
+fn refused(number: u32) -> Edited
+    ensures { λ r. ⌜ r ≡ record { number = number; moves = 0 } ⌝ }
+{
+    Edited { number, moves: 0 }
+}
+
+// Where the device of an edit stands, if the edit fits.
+fn fitting(map: &[u8], n: usize, c: Change) -> Found
+    requires { ⌜ Framed (now map) × (n ≡ length (mapOf (now map) .devices)) ⌝ }
+    ensures { λ r. ⌜ Fitted (mapOf (now (map .entry))) c r ⌝ }
+{
+    match c {
+        Change::Acceptance(d, v) => {
+            if 65536 < v {
+                return Found::Missing;
+            }
+            edit_frame::find_device(map, n, d)
+        }
+        Change::Weight(d, v) => {
+            if 65535 < v {
+                return Found::Missing;
+            }
+            edit_frame::find_device(map, n, d)
+        }
+        Change::Malformed => Found::Missing,
+    }
+}
+
+// Puts the value of an edit that fits into device k of the text.
+fn put_value(map: &mut [u8], k: usize, c: Change)
+    requires { ⌜ (loadNumber (now map) ≡ 0) × (fits (mapOf (now map)) c ≡ true) × PlaceOf (mapOf (now map)) c k ⌝ }
+    ensures { λ _. ⌜ now (map .exit) ≡ mapText (put (mapOf (now (map .entry))) c) ⌝ }
+{
+    match c {
+        Change::Acceptance(d, v) => {
+            edit_frame::put_acceptance(map, k, v);
+        }
+        Change::Weight(d, v) => {
+            edit_frame::put_weight(map, k, v);
+        }
+        Change::Malformed => {}
+    }
+}
+
+// The arrays of the map as it is and as an edit leaves it.
+fn pair_of(map: &[u8], s: Shape, c: Change) -> Pair
+    requires { ⌜ (loadNumber (now map) ≡ 0) × (s ≡ shapeOf (framesIn (now map))) × (fits (mapOf (now map)) c ≡ true) ⌝ }
+    ensures { λ r. ⌜ Paired (mapOf (now (map .entry))) c (s .steps) r ⌝ }
+{
+    let children = links::children_of(map, s);
+    let first = children.first;
+    let count = children.count;
+    let items = children.items;
+    let types = buckets::types_of(map, s);
+    let old = compile::weigh(map, s, Change::Malformed, &first, &count, &types, &items);
+    let weights = old.weights;
+    let acceptance = old.acceptance;
+    let new = compile::weigh(map, s, c, &first, &count, &types, &items);
+    let weights2 = new.weights;
+    let acceptance2 = new.acceptance;
+    let steps = steps::steps_of(map, s);
+    Pair {
+        first: first,
+        count: count,
+        types: types,
+        items: items,
+        weights: weights,
+        acceptance: acceptance,
+        weights2: weights2,
+        acceptance2: acceptance2,
+        steps: steps,
+    }
+}
+
+// An edit to which questions 14 to 18 were answered yes, of device k: 19 and 20, then all that it writes.
+fn edit_device(
+    map: &mut [u8],
+    s: Shape,
+    c: Change,
+    k: usize,
+    groups: u32,
+    w: usize,
+    table: &mut [u16],
+    space: &mut [u8],
+) -> Edited
+    requires { ⌜ (loadNumber (now map) ≡ 0) × (s ≡ shapeOf (framesIn (now map))) × (independent (mapOf (now map)) ≡ true) ⌝ }
+    requires { ⌜ (fits (mapOf (now map)) c ≡ true) × PlaceOf (mapOf (now map)) c k ⌝ }
+    requires { ⌜ (groups ≡ mapOf (now map) .groups) × (w ≡ widthOf (mapOf (now map))) × (groups * w ≤ length (now table)) ⌝ }
+    ensures { λ r. ⌜ ((e : List ℕ) → changeOf e ≡ c
+        → editAnswer r (now (map .exit)) (now (table .exit)) (now (space .exit)) ≡ editOf (now (map .entry)) (now (table .entry)) e (now (space .entry))) ⌝ }
+{
+    let p = pair_of(map, s, c);
+    let steps = p.steps;
+    let n = s.steps;
+    let found = surveys::survey(
+        &p.first,
+        &p.count,
+        &p.types,
+        &p.items,
+        &p.weights,
+        &p.acceptance,
+        &p.weights2,
+        &p.acceptance2,
+        day::SEED,
+        steps,
+        n,
+        groups,
+        w,
+        table,
+    );
+    if !found.fresh {
+        return refused(19);
+    }
+    let moves = found.moves;
+    if space.len() / 23 < moves as usize {
+        return refused(20);
+    }
+    applies::apply(
+        &p.first,
+        &p.count,
+        &p.types,
+        &p.items,
+        &p.weights,
+        &p.acceptance,
+        &p.weights2,
+        &p.acceptance2,
+        day::SEED,
+        steps,
+        n,
+        groups,
+        w,
+        &found.changed,
+        table,
+        space,
+    );
+    put_value(map, k, c);
+    Edited { number: 0, moves }
+}
+
+pub fn edit(map: &mut [u8], table: &mut [u16], frame: &[u8], space: &mut [u8]) -> Edited
+    ensures { λ r. ⌜ editAnswer r (now (map .exit)) (now (table .exit)) (now (space .exit))
+        ≡ editOf (now (map .entry)) (now (table .entry)) (now (frame .entry)) (now (space .entry)) ⌝ }
+{
+    if door::load(map) != 0 {
+        return refused(14);
+    }
+    let s = shape::shape_of(map);
+    let groups = records::groups(map);
+    let w = widths::width(map, s);
+    if table.len() < groups as usize * w {
+        return refused(16);
+    }
+    if !independent::independent(map, s) {
+        return refused(17);
+    }
+    let c = edit_frame::change_of(frame);
+    match fitting(map, s.devices, c) {
+        Found::At(k) => edit_device(map, s, c, k, groups, w, table, space),
+        Found::Missing => refused(18),
+    }
+}
