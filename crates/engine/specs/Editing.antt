@@ -1,5 +1,5 @@
 -- What edit answers behind questions 14 to 18, from what a survey found. Assumes nothing.
-use mathlib.Core.Path.{_≡_, sym, ap, ap₂, subst, _∙_}
+use mathlib.Core.Path.{_≡_, sym, ap, subst, _∙_}
 use mathlib.Core.Bool.{true, false}
 use mathlib.Core.List.{List}
 use Prim.Native.Nat.{ℕ, _*_, _/_, _<_, _≤_}
@@ -8,7 +8,7 @@ use lib.ListN.{length}
 use borrow.Author.Tests.{le-leb, lt-leb}
 use Rattle.definitions.specs.declared.Change.{Change}
 use Rattle.definitions.specs.Lists.{over}
-use Rattle.definitions.specs.Map.{Map, mapOf}
+use Rattle.definitions.specs.Map.{mapOf}
 use Rattle.definitions.specs.Rule.{widthOf}
 use Rattle.definitions.specs.Table.{tableOf}
 use Rattle.definitions.specs.Load.{loadNumber}

@@ -1,21 +1,19 @@
 -- Question 18: an edit that fits, and where its device stands. Assumes nothing.
 use mathlib.Core.Path.{_≡_, refl, sym, ap, subst, _∙_}
-use mathlib.Core.Bool.{Bool, true, false, _&&_, _||_}
-use mathlib.Core.List.{List, [], _∷_}
-use Prim.Native.Nat.{ℕ, zero, suc, _<_, _≤_}
-use native.Mathlib.Omega.{arith}
-use lib.Dec.{leb, eqb}
+use mathlib.Core.Bool.{Bool, true, false, _&&_}
+use mathlib.Core.List.{List}
+use Prim.Native.Nat.{ℕ, _<_, _≤_}
 use lib.ListN.{length, getD}
-use borrow.Author.Tests.{eq-eqb, le-leb, lt-leb}
+use borrow.Author.Tests.{le-leb, lt-leb}
 use Rattle.definitions.specs.declared.Device.{Device}
 use Rattle.definitions.specs.declared.Change.{Change}
 use Rattle.definitions.specs.declared.Change.the-variants.{Acceptance, Weight, Malformed}
-use Rattle.definitions.specs.Lists.{someOf}
 use Rattle.definitions.specs.Map.{Map}
 use Rattle.definitions.specs.Load.{rising, hasDevice}
 use Rattle.definitions.specs.Edit.{put}
 use Rattle.definitions.specs.Writing.{mapText}
 use Rattle.definitions.specs.Calls.{fits}
+use Rattle.laws.specs.Counting.{at-number}
 use Rattle.text.specs.Records.{noDevice}
 use Rattle.text.specs.Edit as texts
 use Rattle.text.specs.Edit.{withDevice, accepting, weighing, Edited}
@@ -34,15 +32,9 @@ unfoldable pub Fitted : Map → Change → Found → Type 0
 Fitted m c (At k) = (fits m c ≡ true) × PlaceOf m c k
 Fitted m c Missing = fits m c ≡ false
 
-or-yes : (a : Bool) {b : Bool} → b ≡ true → a || b ≡ true
-or-yes true e = refl
-or-yes false e = e
-
-some-at : (xs : List Device) (k d : ℕ) → k < length xs → getD xs k noDevice .number ≡ d → someOf (λ (e : Device). eqb (e .number) d) xs ≡ true
-unfolding someOf
-some-at [] k d h e = absurd (omega arith)
-some-at (x ∷ xs) zero d h e = rw (eq-eqb (x .number) d e)
-some-at (x ∷ xs) (suc k) d h e = or-yes (eqb (x .number) d) (some-at xs k d (omega arith) e)
+-- the number by which a device is found
+abbrev number : Device → ℕ
+number e = e .number
 
 and-no : (b : Bool) → b && false ≡ false
 and-no true = refl
@@ -51,12 +43,12 @@ and-no false = refl
 module _ (m : Map) (c : Change) (d v : ℕ) where
   pub accepts-found : (f : Found) → c ≡ Acceptance d v → v ≤ 65536 → FoundIs m d f → Fitted m c f
   unfolding Fitted PlaceOf FoundIs fits hasDevice
-  accepts-found (At k) e h p = rw e (rw (some-at (m .devices) k d (p .0) (p .1), le-leb v 65536 h), p)
+  accepts-found (At k) e h p = rw e (rw (at-number number noDevice d (m .devices) k (p .0) (p .1), le-leb v 65536 h), p)
   accepts-found Missing e h p = rw (e, p)
 
   pub weighs-found : (f : Found) → c ≡ Weight d v → v ≤ 65535 → FoundIs m d f → Fitted m c f
   unfolding Fitted PlaceOf FoundIs fits hasDevice
-  weighs-found (At k) e h p = rw e (rw (some-at (m .devices) k d (p .0) (p .1), le-leb v 65535 h), p)
+  weighs-found (At k) e h p = rw e (rw (at-number number noDevice d (m .devices) k (p .0) (p .1), le-leb v 65535 h), p)
   weighs-found Missing e h p = rw (e, p)
 
   pub accepts-none : c ≡ Acceptance d v → 65536 < v → Fitted m c Missing

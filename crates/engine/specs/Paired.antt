@@ -15,6 +15,7 @@ use Rattle.definitions.specs.Calls.{independent, fits}
 use Rattle.laws.specs.Loadable.{Loadable, put-loadable, put-groups, put-actions, put-width, put-bucket-type}
 use Rattle.hierarchy.specs.Arrays.{viewFrom, Sound}
 use Rattle.compile.specs.Tables.{Tabled}
+use Rattle.tracing.specs.Edited.{put-independent}
 use Rattle.blocks.specs.Standing.{TypesOf}
 use Rattle.placement.specs.Ruled.{Ready}
 use Rattle.placement.specs.Progress.{actionsTo}
@@ -41,10 +42,6 @@ pub record Asked (m : Map) (c : Change) (n k w : ℕ) : Type 0 where
   pub steps : n ≡ length (m .steps)
   pub groups : k ≡ m .groups
   pub width : w ≡ widthOf m
-
-independent-put : (m : Map) (c : Change) → independent m ≡ true → independent (put m c) ≡ true
-unfolding independent
-independent-put m c e = rw (put-actions m c) e
 
 module _ (m : Map) (c : Change) (n k w : ℕ) (p : Pair) (P : Paired m c n p) (A : Asked m c n k w) where
   abbrev v : View
@@ -76,7 +73,7 @@ module _ (m : Map) (c : Change) (n k w : ℕ) (p : Pair) (P : Paired m c n p) (A
         loadable = A .loadable;
         loadable′ = loadable′;
         only = A .only;
-        only′ = independent-put m c (A .only);
+        only′ = put-independent m c ∙ A .only;
       }
 
   types-of : TypesOf m (p .types)

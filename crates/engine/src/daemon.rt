@@ -15,6 +15,7 @@ ghost use Rattle.definitions.specs.Calls.{daemonOf};
 ghost use Rattle.engine.specs.Answers.{daemonAnswer};
 use crate::place;
 use crate::place::Placing;
+use crate::row;
 use blocks::widths;
 use frames::records;
 use frames::shape;
@@ -43,7 +44,7 @@ fn place_bytes(map: &[u8], s: Shape, x: u32, row: &mut [u16], out: &mut [u8]) ->
     ensures { λ r. ⌜ (now (out .exit) ≡ over (twoBytes (entriesOf (placedOf (mapOf (now (map .entry))) x .places))) (now (out .entry)))
         × (r ≡ placedOf (mapOf (now (map .entry))) x .tries) ⌝ }
 {
-    let tries = place::place_into(map, s, x, row);
+    let tries = row::place_into(map, s, x, row);
     put_bytes(row, out);
     tries
 }

@@ -6,4 +6,5 @@ pub mod edit;
 pub mod fill;
 pub mod load;
 pub mod place;
+mod row;
 pub mod write;

@@ -1,22 +1,11 @@
 // Placing a group: "Placing also returns its tries".
 ghost use mathlib.Core.Path.{_≡_};
-ghost use Prim.Native.Nat.{_<_, _≤_};
-ghost use lib.ListN.{length};
-ghost use Rattle.definitions.specs.Frames.{framesIn};
-ghost use Rattle.definitions.specs.Map.{mapOf};
-ghost use Rattle.definitions.specs.Select.{entriesOf};
-ghost use Rattle.definitions.specs.Rule.{widthOf, placedOf};
-ghost use Rattle.definitions.specs.Load.{loadNumber};
 ghost use Rattle.definitions.specs.Calls.{placeOf};
-ghost use Rattle.text.specs.Shape.{shapeOf};
 ghost use Rattle.engine.specs.Answers.{placeAnswer};
-use crate::day;
+use crate::row;
 use blocks::widths;
-use definitions::Change;
 use frames::records;
 use frames::shape;
-use placement::rule;
-use text::Shape;
 
 // The number of the first question answered no, or 0, how many places were written, and the tries.
 #[repr(C)]
@@ -37,29 +26,6 @@ pub fn refused(number: u32) -> Placing
     }
 }
 
-// The list of group x into a row of W places.
-pub fn place_into(map: &[u8], s: Shape, x: u32, row: &mut [u16]) -> u32
-    requires { ⌜ (loadNumber (now map) ≡ 0) × (s ≡ shapeOf (framesIn (now map))) × (length (now row) ≡ widthOf (mapOf (now map))) ⌝ }
-    ensures { λ r. ⌜ (now (row .exit) ≡ entriesOf (placedOf (mapOf (now (map .entry))) x .places)) × (r ≡ placedOf (mapOf (now (map .entry))) x .tries) ⌝ }
-{
-    let h = compile::compile(map, s, Change::Malformed);
-    let steps = h.steps;
-    let n = h.len;
-    rule::place_row(
-        &h.first,
-        &h.count,
-        &h.types,
-        &h.items,
-        &h.weights,
-        &h.acceptance,
-        day::SEED,
-        steps,
-        n,
-        x,
-        row,
-    )
-}
-
 pub fn place(map: &[u8], group: u32, row: &mut [u16]) -> Placing
     ensures { λ r. ⌜ placeAnswer r (now (row .exit)) ≡ placeOf (now (map .entry)) group (now (row .entry)) ⌝ }
 {
@@ -74,7 +40,7 @@ pub fn place(map: &[u8], group: u32, row: &mut [u16]) -> Placing
     if row.len() < w {
         return refused(16);
     }
-    let tries = place_into(map, s, group, &mut row[..w]);
+    let tries = row::place_into(map, s, group, &mut row[..w]);
     Placing {
         number: 0,
         places: w as u32,

@@ -1,28 +1,26 @@
 -- What one call of edit does, by its definition, to a map that load takes and a table that is its fresh fill: a refusal alters nothing, and
 -- a good edit leaves such a map and such a table again. Assumes nothing.
 use mathlib.Core.Path.{_≡_, refl, sym, ap, _∙_, subst}
-use mathlib.Core.Bool.{Bool, true, false, cond, _&&_}
-use mathlib.Core.Logic.{_⊎_, inl, inr, ⊎-elim}
+use mathlib.Core.Bool.{Bool, true, false, cond}
 use mathlib.Core.List.{List, [], _∷_, _++_, map}
-use Prim.Native.Nat.{ℕ, zero, suc, _+_, _-_, _*_, _<_, _≤_}
+use Prim.Native.Nat.{ℕ, zero, _+_, _-_, _*_, _≤_}
 use native.Mathlib.Omega.{arith}
-use lib.Dec.{leb, eqb}
 use lib.ListN.{length, take, drop, length-append, length-drop}
 use lib.Seq.{take-at, drop-at}
-use borrow.Author.Tests.{le-leb, leb-true, leb-false, eq-eqb, eqb-true}
+use borrow.Author.Tests.{le-leb, eq-eqb}
 use Rattle.definitions.specs.declared.Change.{Change}
-use Rattle.definitions.specs.declared.Move.{Move}
-use Rattle.definitions.specs.Lists.{every, same, over, firstNo}
-use Rattle.definitions.specs.Map.{Map, mapOf, actionsOf}
-use Rattle.definitions.specs.Rule.{widthOf, Placed, placedOf}
-use Rattle.definitions.specs.Table.{runsTo, runsOf, rowIn, tableIn, tableOf}
-use Rattle.definitions.specs.Edit.{changeOf, put, movesIn, movesOf, movesBytes}
+use Rattle.definitions.specs.Lists.{same, over, firstNo}
+use Rattle.definitions.specs.Map.{Map, mapOf}
+use Rattle.definitions.specs.Rule.{widthOf}
+use Rattle.definitions.specs.Table.{runsOf, tableIn, tableOf}
+use Rattle.definitions.specs.Edit.{changeOf, put, movesOf, movesBytes}
 use Rattle.definitions.specs.Writing.{mapText}
 use Rattle.definitions.specs.Load.{loadNumber}
-use Rattle.definitions.specs.Calls.{whole, roomForTable, independent, fits, fresh, roomForMoves, EditAnswer, EditCase, caseOf, editNumber, editBy, editAnswer, editOf}
-use Rattle.laws.specs.Lists.{both, and-both}
-use Rattle.laws.specs.Loadable.{Loadable, put-loadable, put-groups, put-actions, put-width}
+use Rattle.definitions.specs.Calls.{whole, roomForTable, independent, fits, fresh, roomForMoves, EditAnswer, caseOf, editNumber, editBy, editAnswer, editOf}
+use Rattle.laws.specs.Lists.{and-both}
+use Rattle.laws.specs.Loadable.{Loadable, put-loadable, put-groups, put-width}
 use Rattle.tracing.specs.Listed.{table-width}
+use Rattle.tracing.specs.Edited.{put-independent}
 use Rattle.text.specs.Agreement.{loaded-map, written-map, written-loads}
 
 -- a list is the same as itself
@@ -37,10 +35,6 @@ pub record Standing (rest frames table : List ℕ) : Type 0 where
   pub only : independent (mapOf frames) ≡ true
   pub room : mapOf frames .groups * widthOf (mapOf frames) ≤ length rest
   pub filled : table ≡ over (tableOf (mapOf frames)) rest
-
-pub independent-put : (m : Map) (c : Change) → independent (put m c) ≡ independent m
-unfolding independent
-independent-put m c = rw (put-actions m c)
 
 -- a new front of the same length over a list that had one
 pub over-over : (a b rest : List ℕ) → length a ≡ length b → over a (over b rest) ≡ over a rest
@@ -123,7 +117,7 @@ module _ (rest frames table edit space : List ℕ) (S : Standing rest frames tab
   new-length h =
       let e : m′ .groups * widthOf m′ ≡ m .groups * widthOf m =
       ap (λ (n : ℕ). n * widthOf m′) (put-groups m c) ∙ ap (λ (n : ℕ). m .groups * n) (put-width m c) in
-      table-width m′ (put-loadable m c loadable h) (independent-put m c ∙ S .only) (m′ .groups) ∙ e ∙ sym (table-width m loadable (S .only) (m .groups))
+      table-width m′ (put-loadable m c loadable h) (put-independent m c ∙ S .only) (m′ .groups) ∙ e ∙ sym (table-width m loadable (S .only) (m .groups))
 
   -- ONE CALL
   pub step-told : Told rest frames table edit space (editOf frames table edit space)
@@ -152,7 +146,7 @@ module _ (rest frames table edit space : List ℕ) (S : Standing rest frames tab
   step-stands o (done e f d) =
       record {
         loads = rw (d .text) (written-loads m′ (put-loadable m c loadable e));
-        only = ap independent (d .holds) ∙ independent-put m c ∙ S .only;
+        only = ap independent (d .holds) ∙ put-independent m c ∙ S .only;
         room =
             subst (λ (n : Map). n .groups * widthOf n ≤ length rest) (sym (d .holds))
             (subst (λ (n : ℕ). n * widthOf m′ ≤ length rest) (sym (put-groups m c))

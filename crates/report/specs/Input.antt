@@ -1,15 +1,14 @@
 -- Document 01, "Samples": "The map is the input through the first line that begins with `05`, or all of it if there is none." Assumes
 -- nothing.
-use mathlib.Core.Path.{_≡_, refl, sym, ap, _∙_}
+use mathlib.Core.Path.{_≡_, refl, _∙_}
 use mathlib.Core.Bool.{Bool, true, false, cond, _&&_}
 use mathlib.Core.List.{List, [], _∷_}
-use Prim.Native.Nat.{ℕ, zero, suc, _+_, _-_, _<_, _≤_}
+use Prim.Native.Nat.{ℕ, suc, _+_, _-_, _<_, _≤_}
 use native.Mathlib.Omega.{arith}
 use native.Mathlib.Numerals.{add-one}
-use native.Mathlib.Nat.{add-zero}
 use lib.Dec.{eqb}
-use lib.ListN.{length, getD, drop, drop-of-length-le, List·getD-eq-default}
-use lib.Seq.{drop-cons, getD-drop}
+use lib.ListN.{length, getD, drop, drop-of-length-le}
+use lib.Seq.{drop-cons}
 use borrow.Author.Tests.{eq-eqb, ne-eqb}
 
 -- how many bytes a line has, its byte 10 included, or all of them where it is unended
@@ -19,7 +18,9 @@ lineBytes (b ∷ bs) = suc (cond (eqb b 10) 0 (lineBytes bs))
 
 -- "begins with `05`": the bytes 48 and 53
 unfoldable pub begins05 : List ℕ → Bool
-begins05 bs = eqb (getD bs 0 0) 48 && eqb (getD bs 1 0) 53
+begins05 [] = false
+begins05 (a ∷ []) = false
+begins05 (a ∷ b ∷ bs) = eqb a 48 && eqb b 53
 
 -- how many of these bytes are the map; `start` says whether a line begins with the first of them
 unfoldable pub mapFrom : Bool → List ℕ → ℕ
@@ -43,26 +44,23 @@ pub line-none : (t : List ℕ) (i : ℕ) → length t ≤ i → lineBytes (drop 
 unfolding lineBytes
 line-none t i h = rw (drop-of-length-le t h)
 
-begins-at : (t : List ℕ) (i : ℕ) → begins05 (drop i t) ≡ eqb (getD t i 0) 48 && eqb (getD t (i + 1) 0) 53
+begins-at : (t : List ℕ) (i : ℕ) → i + 1 < length t → begins05 (drop i t) ≡ eqb (getD t i 0) 48 && eqb (getD t (i + 1) 0) 53
 unfolding begins05
-begins-at t i = rw (getD-drop i t 0 0, getD-drop i t 1 0, add-zero i) refl
-
-and-no : (b : Bool) → b && false ≡ false
-and-no true = refl
-and-no false = refl
+begins-at t i h = rw (drop-cons t i 0 (omega arith), drop-cons t (suc i) 0 (omega arith), add-one) refl
 
 module _ (start : Bool) (t : List ℕ) (i : ℕ) where
   pub begins-not : start ≡ false → start && begins05 (drop i t) ≡ false
   begins-not e = rw e
 
-  pub begins-short : start ≡ true → length t ≤ i + 1 → start && begins05 (drop i t) ≡ false
-  begins-short e h = rw (e, begins-at t i, List·getD-eq-default t 0 {n = i + 1} h) (and-no (eqb (getD t i 0) 48))
+  pub begins-short : start ≡ true → i < length t → length t ≤ i + 1 → start && begins05 (drop i t) ≡ false
+  unfolding begins05
+  begins-short e l h = rw (e, drop-cons t i 0 l, drop-of-length-le t {i = suc i} (omega arith))
 
-  pub begins-other : start ≡ true → (getD t i 0 ≡ 48 → ⊥) → start && begins05 (drop i t) ≡ false
-  begins-other e h = rw (e, begins-at t i, ne-eqb (getD t i 0) 48 h)
+  pub begins-other : start ≡ true → i + 1 < length t → (getD t i 0 ≡ 48 → ⊥) → start && begins05 (drop i t) ≡ false
+  begins-other e l h = rw (e, begins-at t i l, ne-eqb (getD t i 0) 48 h)
 
-  pub begins-zero : start ≡ true → getD t i 0 ≡ 48 → start && begins05 (drop i t) ≡ eqb (getD t (i + 1) 0) 53
-  begins-zero e h = rw (e, begins-at t i, eq-eqb (getD t i 0) 48 h)
+  pub begins-zero : start ≡ true → i + 1 < length t → getD t i 0 ≡ 48 → start && begins05 (drop i t) ≡ eqb (getD t (i + 1) 0) 53
+  begins-zero e l h = rw (e, begins-at t i l, eq-eqb (getD t i 0) 48 h)
 
   map-at : i < length t
       → mapFrom start (drop i t) ≡ cond (start && begins05 (drop i t)) (lineBytes (drop i t)) (suc (mapFrom (eqb (getD t i 0) 10) (drop (i + 1) t)))

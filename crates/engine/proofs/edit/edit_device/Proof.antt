@@ -1,6 +1,5 @@
 -- `engine::edit::edit_device` meets its contract: 19, 20, then the moves, the rows and the value. Assumes nothing.
-use mathlib.Core.Path.{_≡_, sym, ap, ap₂, subst, _∙_}
-use mathlib.Core.Bool.{true, false}
+use mathlib.Core.Path.{_≡_, ap₂, subst}
 use Prim.Native.Nat.{ℕ, _*_, _≤_}
 use native.Mathlib.Omega.{arith}
 use lib.ListN.{length}
@@ -12,7 +11,7 @@ use Rattle.text.specs.Records.{shape-steps}
 use Rattle.text.specs.Agreement.{loaded-map}
 use Rattle.survey.specs.Between as betweens
 use Rattle.survey.specs.Surveyed.{fresh-rows}
-use Rattle.engine.specs.Paired.{Paired, Asked, between, old-ready, new-ready}
+use Rattle.engine.specs.Paired.{Asked, between, old-ready, new-ready}
 use Rattle.engine.specs.Editing.{room-for, stale, short, done}
 use borrow.Author.Needs.{needs}
 use borrow.Author.Tests.{not-true, not-false}

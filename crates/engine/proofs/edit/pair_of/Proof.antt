@@ -6,7 +6,6 @@ use Rattle.definitions.specs.Edit.{put}
 use Rattle.laws.specs.Loadable.{put-loadable}
 use Rattle.text.specs.Agreement.{loaded-map}
 use Rattle.compile.specs.Reading.{Readable, readable, no-edit}
-use Rattle.engine.specs.Paired.{Paired}
 use borrow.Author.Needs.{needs}
 use Rattle.engine.proofs.edit.pair_of.Statement.{statement}
 use Rattle.engine.proofs.edit.pair_of.Tie as tie

@@ -15,13 +15,13 @@ sub-if2 : tie.Need-sub-if2
 sub-if2 c = search needs
 
 returns-2 : tie.Need-returns-2
-returns-2 c = let s = c .before .before in sym (begins-short (s .args .start) (s .args .input .now) (s .args .at) (not-false _ (c .before .if1 .left)) (omega arith))
+returns-2 c = let s = c .before .before in sym (begins-short (s .args .start) (s .args .input .now) (s .args .at) (not-false _ (c .before .if1 .left)) (s .pre) (omega arith))
 
 shared-slice-read-if3 : tie.Need-shared-slice-read-if3
 shared-slice-read-if3 c = search needs
 
 returns-3 : tie.Need-returns-3
-returns-3 c = let s = c .before .before .before .before in sym (begins-other (s .args .start) (s .args .input .now) (s .args .at) (not-false _ (c .before .before .before .if1 .left)) (c .if3 .taken))
+returns-3 c = let s = c .before .before .before .before in sym (begins-other (s .args .start) (s .args .input .now) (s .args .at) (not-false _ (c .before .before .before .if1 .left)) (omega arith) (c .if3 .taken))
 
 add-result : tie.Need-add-result
 add-result c = search needs
@@ -30,7 +30,7 @@ shared-slice-read-result : tie.Need-shared-slice-read-result
 shared-slice-read-result c = search needs
 
 returns-4 : tie.Need-returns-4
-returns-4 c = let s = c .before .before .before .before .before in sym (begins-zero (s .args .start) (s .args .input .now) (s .args .at) (not-false _ (c .before .before .before .before .if1 .left)) (c .before .if3 .left))
+returns-4 c = let s = c .before .before .before .before .before in sym (begins-zero (s .args .start) (s .args .input .now) (s .args .at) (not-false _ (c .before .before .before .before .if1 .left)) (omega arith) (c .before .if3 .left))
 
 pub begins-05-spec : {M : Type 1} → statement M
 begins-05-spec =

@@ -1,6 +1,5 @@
--- `engine::place::place_into` meets its contract: the arrays are the map's, and the row that they give is the group's list. Assumes nothing.
-use mathlib.Core.Path.{_≡_, sym, ap, _∙_}
-use mathlib.Core.List.{List}
+-- `engine::row::place_into` meets its contract: the arrays are the map's, and the row that they give is the group's list. Assumes nothing.
+use mathlib.Core.Path.{ap, _∙_}
 use Prim.Native.Nat.{ℕ}
 use native.Mathlib.Omega.{arith}
 use Rattle.definitions.specs.Map.{mapOf}
@@ -12,8 +11,8 @@ use Rattle.placement.specs.Bare.{filledUp, bareRunTo}
 use Rattle.placement.specs.Loaded.{placed-is}
 use Rattle.engine.specs.Compiled.{Compiled, compiled-from, compiled-ready, compiled-length, compiled-width}
 use borrow.Author.Needs.{needs}
-use Rattle.engine.proofs.place.place_into.Statement.{statement}
-use Rattle.engine.proofs.place.place_into.Tie as tie
+use Rattle.engine.proofs.row.place_into.Statement.{statement}
+use Rattle.engine.proofs.row.place_into.Tie as tie
 
 -- the map, that it is loadable, and that the arrays are its own
 loadable : (c : tie.After-compile) → Loadable (mapOf (c .before .before .before .args .map .now))
