@@ -1,8 +1,8 @@
 #!/usr/bin/env python3
-"""Compares program `fill` with a CRUSH by another hand on random maps, good, damaged and at the edges, output by output.
+"""Compares program `fill` with a CRUSH by another hand on random maps and edits, good, damaged and at the edges, output by output.
 
-compare_fill.py --oracle DIR [--maps N] [--first SEED]: DIR holds that CRUSH as fill.py and gen.py; N seeds of each kind of input. Both are
-given the map without the edits that follow it. `rt check fill` makes the program."""
+compare_fill.py --oracle DIR [--maps N] [--first SEED] [--kinds KIND ..]: DIR holds that CRUSH as fill.py and gen.py; N seeds of each kind of
+input. What is counted are the answers wanted: rows, moves by their cause, refusals. `rt check fill` makes the program."""
 import argparse
 import collections
 import pathlib
@@ -17,28 +17,38 @@ def output_of(command, given=b""):
     return subprocess.run(command, input=given, stdout=subprocess.PIPE, check=True).stdout
 
 
+def name_of(line):
+    """A line's kind: a row, a move with its cause, or a refusal with its number."""
+    if line.startswith(b"11"):
+        return "row"
+    return (b"13.." + line[-2:]).decode() if line.startswith(b"13") else line.decode()
+
+
 def main():
     parser = argparse.ArgumentParser(description=__doc__)
     parser.add_argument("--oracle", type=pathlib.Path, required=True)
     parser.add_argument("--maps", type=int, default=100)
     parser.add_argument("--first", type=int, default=0)
+    parser.add_argument("--kinds", nargs="+", choices=KINDS, default=KINDS)
     options = parser.parse_args()
     sys.path.insert(0, str(options.oracle))
     import fill as reference
 
     answers = collections.Counter()
-    wrong = 0
-    for kind in KINDS:
+    inputs = edited = wrong = 0
+    for kind in options.kinds:
         for seed in range(options.first, options.first + options.maps):
-            made = output_of([sys.executable, options.oracle / "gen.py", str(seed), kind])
-            given = reference.split_input(made)[0]
-            want = output_of([sys.executable, options.oracle / "fill.py"], given)
+            given = output_of([sys.executable, options.oracle / "gen.py", str(seed), kind])
+            want = reference.emulate(given)
             got = output_of([PROGRAM], given)
+            inputs += 1
             if got != want:
                 wrong += 1
                 print(f"{kind} {seed}: {got[:60]!r} for {want[:60]!r}")
-            answers[want[:4].decode() if want.startswith(b"1f") else "rows"] += 1
-    print(f"{sum(answers.values())} inputs, {wrong} wrong; wanted {dict(sorted(answers.items()))}")
+            if want.startswith(b"11") and reference.split_input(given)[1]:
+                edited += 1
+            answers.update(name_of(line) for line in want.splitlines())
+    print(f"{inputs} inputs, {edited} of them filled and edited, {wrong} wrong; wanted {dict(sorted(answers.items()))}")
     return 1 if wrong else 0
 
 

@@ -6,7 +6,7 @@ use Prim.Native.Nat.{ℕ, zero, suc, _+_, _*_, _<_, _≤_}
 use native.Mathlib.Omega.{arith}
 use lib.Dec.{leb, ltb, eqb}
 use lib.ListN.{length}
-use borrow.Author.Tests.{eq-eqb, ne-eqb, lt-ltb, le-ltb, le-leb, lt-leb}
+use borrow.Author.Tests.{eq-eqb, ne-eqb, lt-ltb, le-ltb, le-leb, lt-leb, leb-true, leb-false}
 use Rattle.definitions.specs.Lists.{over, firstNo}
 use Rattle.definitions.specs.Map.{Map, mapOf}
 use Rattle.definitions.specs.Select.{entriesOf}
@@ -112,3 +112,24 @@ module _ (f table : List ℕ) (e : loadNumber f ≡ 0) where
       → fillOf f table ≡ record { number = 0; places = mapOf f .groups * widthOf (mapOf f); table = over (tableOf (mapOf f)) table }
   unfolding fillOf fillNumber firstNo fillBy roomForTable
   fill-0 l = simp (whole-yes f e, le-leb (mapOf f .groups * widthOf (mapOf f)) (length table) l)
+
+-- a fill that was not refused: the table has room for the rows, and has them at its front
+pub record Filling (f table : List ℕ) (o : FillAnswer) : Type 0 where
+  pub room : mapOf f .groups * widthOf (mapOf f) ≤ length table
+  pub places : o .places ≡ mapOf f .groups * widthOf (mapOf f)
+  pub rows : o .table ≡ over (tableOf (mapOf f)) table
+
+pub filling : (f table : List ℕ) (o : FillAnswer) → loadNumber f ≡ 0 → o ≡ fillOf f table → o .number ≡ 0 → Filling f table o
+filling f table o e a z = go (leb k (length table)) refl
+  where
+    k : ℕ
+    k = mapOf f .groups * widthOf (mapOf f)
+
+    go : (b : Bool) → leb k (length table) ≡ b → Filling f table o
+    go true h =
+        let l = leb-true k (length table) h in
+        let q = a ∙ fill-0 f table e l in
+        record { room = l; places = ap (λ (x : FillAnswer). x .places) q; rows = ap (λ (x : FillAnswer). x .table) q }
+    go false h =
+        let n : o .number ≡ 16 = ap (λ (x : FillAnswer). x .number) (a ∙ fill-16 f table e (leb-false k (length table) h)) in
+        absurd (omega (arith, n, z))

@@ -1,3 +1,4 @@
 // Document 01, "Samples": which of its input program `fill` takes as the map, and the lines that it prints.
+pub mod edits;
 pub mod input;
 pub mod lines;

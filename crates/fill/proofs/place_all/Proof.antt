@@ -13,19 +13,16 @@ use Rattle.fill.proofs.place_all.Statement.{statement}
 use Rattle.fill.proofs.place_all.Tie as tie
 
 -- behind load's questions the map loads
-loads : (c : tie.Else1) → loadNumber (c .before .before .before .args .map .now) ≡ 0
+loads : (c : tie.Else1) → loadNumber (c .before .before .before .before .args .map .now) ≡ 0
 unfolding loadOf
 loads c = sym (c .before .load .ensures) ∙ c .if1 .left
 
 -- and behind fill's, the rows can be printed
-rows : (c : tie.After-wide)
-    → let f = c .before .before .before .before .before in
-    Printed (f .fill .result .places) (c .before .groups .result) (c .wide .result) (length (f .before .before .table-space .result))
+rows : (c : tie.After-wide) → Printed (c .before .before .before .before .before .before .fill .result .places) (c .before .groups .result) (c .wide .result) (length (c .before .before .before .before .before .before .before .before .before .before .before .before .args .table .now))
 rows c =
-    let g = c .before in
-    let f = g .before .before .before .before in
-    let t = f .before .before in
-    printed (t .before .before .before .before .args .map .now) (t .table-space .result) _ (f .fill .result) (g .groups .result) (c .wide .result) (loads (t .before)) (f .fill .ensures) (g .before .if2 .left) (g .groups .ensures)
+    let f = c .before .before .before .before .before .before in
+    let s = c .before .before .before .before .before .before .before .before .before .before .before .before in
+    printed (s .args .map .now) (s .args .table .now) _ (f .fill .result) (c .before .groups .result) (c .wide .result) (loads (f .before .before)) (f .fill .ensures) (c .before .before .if2 .left) (c .before .groups .ensures)
     (c .wide .ensures)
 
 load-requires : tie.Need-load-requires
@@ -37,17 +34,14 @@ print-refusal-requires c κs = search needs
 returns : tie.Need-returns
 returns c = search needs
 
-table-space-requires : tie.Need-table-space-requires
-table-space-requires c κs = search needs
-
-slice-aggregate-fill : tie.Need-slice-aggregate-fill
-slice-aggregate-fill c = search needs
-
 fill-requires : tie.Need-fill-requires
 fill-requires c κs = search needs
 
 print-refusal-requires-2 : tie.Need-print-refusal-requires-2
 print-refusal-requires-2 c κs = search needs
+
+same-length : tie.Need-same-length
+same-length c = search needs
 
 returns-2 : tie.Need-returns-2
 returns-2 c = search needs
@@ -70,29 +64,28 @@ add-n c = let q = rows (c .before) .slim in omega (arith, q)
 line-space-requires : tie.Need-line-space-requires
 line-space-requires c κs = search needs
 
-slice-aggregate-print-rows : tie.Need-slice-aggregate-print-rows
-slice-aggregate-print-rows c = search needs
-
 array-borrow-prefix-space : tie.Need-array-borrow-prefix-space
 array-borrow-prefix-space c = let l = c .before in omega (arith, rows (l .before .before) .slim, l .line-space .ensures)
 
 -- the line's space is as long as a row's line
 lent : (c : tie.After-space)
-    → let l = c .before .before in
-    let w = l .before .before in
-    let n = 11 + 4 * (w .before .before .before .before .before .fill .result .places / w .wide .result) in
-    length (take n (l .line-space .result)) ≡ n
-lent c = let l = c .before .before in length-take-le _ (l .line-space .result) (array-borrow-prefix-space (c .before))
+    → let w = c .before .before .before .before in
+    let n = 11 + 4 * (w .before .before .before .before .before .before .fill .result .places / w .wide .result) in
+    length (take n (c .before .before .line-space .result)) ≡ n
+lent c = length-take-le _ (c .before .before .line-space .result) (array-borrow-prefix-space (c .before))
 
-slice-aggregate-print-rows-2 : tie.Need-slice-aggregate-print-rows-2
-slice-aggregate-print-rows-2 c = sym (lent c)
+slice-aggregate-print-rows : tie.Need-slice-aggregate-print-rows
+slice-aggregate-print-rows c = sym (lent c)
 
 print-rows-requires : tie.Need-print-rows-requires
 print-rows-requires c κs =
     let w = c .before .before .before .before in
     let q = rows w in
-    let t = w .before .before .before .before .before .before .before in
-    (q .slim, omega (arith, q .within, t .table-space .ensures, slice-aggregate-print-rows (c .before)), lent c)
+    let same : length (w .before .before .before .before .before .before .fill .last .1 .0) ≡ length (w .before .before .before .before .before .before .before .before .before .before .before .before .args .table .now) = search needs in
+    (q .slim, omega (arith, q .within, same), lent c)
+
+same-length-2 : tie.Need-same-length-2
+same-length-2 c = search needs
 
 returns-3 : tie.Need-returns-3
 returns-3 c = search needs
@@ -104,10 +97,9 @@ place-all-spec =
     load-requires
     print-refusal-requires
     returns
-    table-space-requires
-    slice-aggregate-fill
     fill-requires
     print-refusal-requires-2
+    same-length
     returns-2
     groups-requires
     wide-requires
@@ -115,8 +107,8 @@ place-all-spec =
     mul-n
     add-n
     line-space-requires
-    slice-aggregate-print-rows
     array-borrow-prefix-space
-    slice-aggregate-print-rows-2
+    slice-aggregate-print-rows
     print-rows-requires
+    same-length-2
     returns-3)

@@ -1,0 +1,3 @@
+pub mod Contracts
+pub mod Demand3
+pub mod Sample

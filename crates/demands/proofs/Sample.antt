@@ -1,0 +1,159 @@
+-- Document 01, "Samples": map M with one edit is an instance of demand 3, and M with a first-n select one of what stands beside it. All
+-- of it is computed from the definitions.
+use mathlib.Core.Path.{_≡_, refl, sym, ap, subst}
+use mathlib.Core.Bool.{true, false}
+use mathlib.Core.List.{List, [], _∷_, _++_, map}
+use Prim.Native.Nat.{ℕ}
+use contract.Lifetimes.{Lfts}
+use denote.Ref.{RefT}
+use lib.ListN.{replicate}
+use Rattle.definitions.specs.Frames.{hex}
+use Rattle.definitions.specs.Map.{mapOf}
+use Rattle.definitions.specs.Calls.{FillAnswer, EditAnswer, loadOf, independent, fillOf, editOf}
+use Rattle.definitions.specs.Open.{computing}
+use Rattle.samples.specs.Samples.{M, line}
+use Rattle.history.specs.Calls.{Kept}
+use Rattle.demands.proofs.Contracts.{LoadCall, load-call-of, FillCall, fill-call-of, EditCall, edit-call-of, callOf, editAnswered}
+use Rattle.demands.proofs.Demand3.{Start, EditRun, empty, next, demand-3, Unaltered, first-n-refused}
+
+-- a table of four places and a space of two moves, as they are lent
+abbrev pub lentTable : List ℕ
+lentTable = 7 ∷ 7 ∷ 7 ∷ 7 ∷ []
+
+abbrev pub lentSpace : List ℕ
+lentSpace = replicate 46 7
+
+-- "11000000000000ffff", "11000000010000ffff": the table that fill leaves
+abbrev pub M-table : List ℕ
+M-table = 0x0000 ∷ 0xffff ∷ 0x0000 ∷ 0xffff ∷ []
+
+-- "21000000000000"
+abbrev pub M-edit : List ℕ
+M-edit = hex 14 0x21000000000000
+
+-- "1300000000010000ffff01", "1300000001010000ffff01": the moves
+abbrev pub M-moves : List ℕ
+M-moves = line 22 0x1300000000010000ffff01 ++ line 22 0x1300000001010000ffff01
+
+-- M with acceptance 0, and its table
+abbrev pub M′ : List ℕ
+M′ =
+    line 10 0x0000000002
+    ++ line 22 0x0100000000000100000000
+    ++ line 8 0x02000001
+    ++ line 14 0x03000000000000
+    ++ line 12 0x040100000000
+    ++ line 12 0x040302000000
+    ++ line 12 0x040400000000
+    ++ line 6 0x050007
+
+abbrev pub M′-table : List ℕ
+M′-table = 0xffff ∷ 0xffff ∷ 0xffff ∷ 0xffff ∷ []
+
+pub M-loads : loadOf M ≡ 0
+unfolding computing
+M-loads = refl
+
+pub M-independent : independent (mapOf M) ≡ true
+unfolding computing
+M-independent = refl
+
+pub M-fills : fillOf M lentTable ≡ record { number = 0; places = 4; table = M-table }
+unfolding computing
+M-fills = refl
+
+pub M-edited : editOf M M-table M-edit lentSpace ≡ record { number = 0; moves = 2; frames = M′; table = M′-table; space = M-moves }
+unfolding computing
+M-edited = refl
+
+-- M with a first-n select; its table is that of M
+abbrev pub F : List ℕ
+F =
+    line 10 0x0000000002
+    ++ line 22 0x0100000000000100010000
+    ++ line 8 0x02000001
+    ++ line 14 0x03000000000000
+    ++ line 12 0x040100000000
+    ++ line 12 0x040202000000
+    ++ line 12 0x040400000000
+    ++ line 6 0x050007
+
+pub F-loads : loadOf F ≡ 0
+unfolding computing
+F-loads = refl
+
+pub F-first-n : independent (mapOf F) ≡ false
+unfolding computing
+F-first-n = refl
+
+pub F-fills : fillOf F lentTable ≡ record { number = 0; places = 4; table = M-table }
+unfolding computing
+F-fills = refl
+
+pub F-edited : editOf F M-table M-edit lentSpace ≡ record { number = 17; moves = 0; frames = F; table = M-table; space = lentSpace }
+unfolding computing
+F-edited = refl
+
+-- lent at any place, under any name
+module _ (κ-load : Lfts 1) (κ-fill : Lfts 2) (κ-edit : Lfts 4) (at : ℕ × ℕ) (name : ℕ) where
+  abbrev lent : List ℕ → RefT (List ℕ)
+  lent bytes = record { ptr = at; name = name; now = bytes }
+
+  -- the calls that are lent these
+  abbrev pub M-load : LoadCall
+  M-load = load-call-of κ-load (lent M, tt)
+
+  abbrev pub M-fill : FillCall
+  M-fill = fill-call-of κ-fill (lent M, (lent lentTable, tt))
+
+  abbrev pub M-call : EditCall
+  M-call = edit-call-of κ-edit (lent M, (lent M-table, (lent M-edit, (lent lentSpace, tt))))
+
+  pub M-start : Start M-load M-fill M lentTable M-table
+  M-start =
+      record {
+        lent-load = refl;
+        loads = M-loads;
+        lent-fill = refl;
+        lent-table = refl;
+        fills = ap (λ (o : FillAnswer). o .number) M-fills;
+        left-table = ap (λ (o : FillAnswer). o .table) M-fills;
+      }
+
+  -- number 0, two moves, their bytes, and four holes
+  pub M-answered : editAnswered M-call ≡ record { number = 0; moves = 2; frames = M′; table = M′-table; space = M-moves }
+  M-answered = M-edited
+
+  pub M-run : EditRun M M-table (M-call ∷ []) M′ M′-table
+  M-run =
+      next M-call refl refl
+      (subst (λ (o : EditAnswer). EditRun (o .frames) (o .table) [] M′ M′-table) (sym M-answered) empty)
+
+  pub M-kept : Kept lentTable M M-table (map callOf (M-call ∷ [])) M′ M′-table
+  M-kept = demand-3 M-load M-fill (M-call ∷ []) M lentTable M-table M′ M′-table M-start M-independent M-run
+
+  abbrev pub F-load : LoadCall
+  F-load = load-call-of κ-load (lent F, tt)
+
+  abbrev pub F-fill : FillCall
+  F-fill = fill-call-of κ-fill (lent F, (lent lentTable, tt))
+
+  abbrev pub F-call : EditCall
+  F-call = edit-call-of κ-edit (lent F, (lent M-table, (lent M-edit, (lent lentSpace, tt))))
+
+  pub F-start : Start F-load F-fill F lentTable M-table
+  F-start =
+      record {
+        lent-load = refl;
+        loads = F-loads;
+        lent-fill = refl;
+        lent-table = refl;
+        fills = ap (λ (o : FillAnswer). o .number) F-fills;
+        left-table = ap (λ (o : FillAnswer). o .table) F-fills;
+      }
+
+  pub F-run : EditRun F M-table (F-call ∷ []) F M-table
+  F-run = next F-call refl refl (subst (λ (o : EditAnswer). EditRun (o .frames) (o .table) [] F M-table) (sym F-edited) empty)
+
+  pub F-unaltered : Unaltered F M-table (F-call ∷ []) F M-table
+  F-unaltered = first-n-refused F-load F-fill (F-call ∷ []) F lentTable M-table F M-table F-start F-first-n F-run

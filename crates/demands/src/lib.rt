@@ -1,0 +1,1 @@
+// No function is here: demand 3, over the contracts of load, fill and edit.

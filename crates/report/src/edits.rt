@@ -1,0 +1,134 @@
+// The lines behind the map: "Each later line, an unended last one too, is one edit."
+ghost use mathlib.Core.Path.{_≡_};
+ghost use mathlib.Core.List.{List, [], _∷_, _++_};
+ghost use Prim.Native.Nat.{ℕ, _≤_};
+ghost use lib.ListN.{length, take};
+ghost use Rattle.definitions.specs.Edit.{changeOf};
+ghost use Rattle.report.specs.Lines.{refusalLine};
+ghost use Rattle.report.specs.Edits.{isEdit, lineOf, byteOf, endOf};
+ghost use Rattle.report.specs.Kept.{Keeps, Answers, Stands};
+use crate::lines;
+use definitions::Change;
+use frames::edit_frame;
+
+// A line under way. At most 15 of its bytes are kept, one more than an edit frame has: a longer line stays of no edit form.
+pub struct Line {
+    pub bytes: [u8; 15],
+    pub count: usize,
+}
+
+// A line as a byte leaves it, and how many bytes of the space are to be printed.
+pub struct Turn {
+    pub line: Line,
+    pub printed: usize,
+}
+
+// A line that has no byte yet.
+pub fn no_line() -> Line
+    ensures { λ r. ⌜ Keeps r [] ⌝ }
+{
+    Line {
+        bytes: [0; 15],
+        count: 0,
+    }
+}
+
+// A line with one byte more.
+fn longer(l: Line, b: u8) -> Line
+    requires { ⌜ l .count ≤ 15 ⌝ }
+    ensures { λ r. ⌜ (r .count ≤ 15) × ((xs : List ℕ) → Keeps l xs → Keeps r (xs ++ (b ∷ []))) ⌝ }
+{
+    let n = l.count;
+    if n == 15 {
+        return l;
+    }
+    let mut bytes = l.bytes;
+    bytes[n] = b;
+    Line {
+        bytes: bytes,
+        count: n + 1,
+    }
+}
+
+fn is_edit(c: Change) -> bool
+    ensures { λ r. ⌜ r ≡ isEdit c ⌝ }
+{
+    match c {
+        Change::Acceptance(d, v) => true,
+        Change::Weight(d, v) => true,
+        Change::Malformed => false,
+    }
+}
+
+fn wide(x: u32) -> usize
+    ensures { λ r. ⌜ r ≡ x ⌝ }
+{
+    x as usize
+}
+
+// Writes a refusal over the front of the space, and answers its length.
+fn refuse(number: u32, space: &mut [u8]) -> usize
+    requires { ⌜ 5 ≤ length (now space) ⌝ }
+    ensures { λ r. ⌜ (take r (now (space .exit)) ≡ refusalLine number) × (r ≤ length (now (space .exit))) ⌝ }
+{
+    lines::refusal_line(number, &mut space[..5]);
+    5
+}
+
+// Makes the edit of a line, writes what it prints over the front of the space, and answers how many bytes that is.
+fn answer(map: &mut [u8], table: &mut [u16], line: &[u8], space: &mut [u8]) -> usize
+    requires { ⌜ 5 ≤ length (now space) ⌝ }
+    ensures { λ r. ⌜ Answers r (now (map .exit)) (now (table .exit)) (now (space .exit))
+        (lineOf (now (map .entry)) (now (table .entry)) (now (line .entry)) (now (space .entry))) ⌝ }
+{
+    if !is_edit(edit_frame::change_of(line)) {
+        return refuse(18, space);
+    }
+    let e = engine::edit::edit(map, table, line, space);
+    if e.number != 0 {
+        return refuse(e.number, space);
+    }
+    wide(e.moves) * 23
+}
+
+// A line has ended: its edit is made.
+fn on_line(map: &mut [u8], table: &mut [u16], l: Line, space: &mut [u8]) -> usize
+    requires { ⌜ (5 ≤ length (now space)) × (l .count ≤ 15) ⌝ }
+    ensures { λ r. ⌜ (r ≤ length (now (space .exit))) × ((xs : List ℕ) → Keeps l xs → Answers r (now (map .exit)) (now (table .exit)) (now (space .exit))
+        (lineOf (now (map .entry)) (now (table .entry)) xs (now (space .entry)))) ⌝ }
+{
+    let bytes = l.bytes;
+    let n = l.count;
+    answer(map, table, &bytes[..n], space)
+}
+
+// One byte more of the lines.
+pub fn on_byte(map: &mut [u8], table: &mut [u16], l: Line, b: u8, space: &mut [u8]) -> Turn
+    requires { ⌜ (5 ≤ length (now space)) × (l .count ≤ 15) ⌝ }
+    ensures { λ r. ⌜ (r .line .count ≤ 15) × (r .printed ≤ length (now (space .exit))) × ((xs : List ℕ) → Keeps l xs → Stands r (now (map .exit)) (now (table .exit)) (now (space .exit))
+        (byteOf (now (map .entry)) (now (table .entry)) xs b (now (space .entry)))) ⌝ }
+{
+    if b != 10 {
+        return Turn {
+            line: longer(l, b),
+            printed: 0,
+        };
+    }
+    let printed = on_line(map, table, l, space);
+    Turn {
+        line: no_line(),
+        printed,
+    }
+}
+
+// The end of the lines.
+pub fn on_end(map: &mut [u8], table: &mut [u16], l: Line, space: &mut [u8]) -> usize
+    requires { ⌜ (5 ≤ length (now space)) × (l .count ≤ 15) ⌝ }
+    ensures { λ r. ⌜ (r ≤ length (now (space .exit))) × ((xs : List ℕ) → Keeps l xs → Answers r (now (map .exit)) (now (table .exit)) (now (space .exit))
+        (endOf (now (map .entry)) (now (table .entry)) xs (now (space .entry)))) ⌝ }
+{
+    if l.count == 0 {
+        return 0;
+    }
+    on_line(map, table, l, space)
+}
