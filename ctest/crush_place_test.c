@@ -1,4 +1,4 @@
-/* Calls crush_place on the vectors in a file and compares each answer; around every buffer stand canaries. */
+/* Calls crush_place and crush_day_group on the vectors in two files and compares each answer; around every buffer stand canaries. */
 #include "../include/crush_place.h"
 
 #include <stdio.h>
@@ -36,21 +36,30 @@ static int intact(const uint8_t *p, size_t n) {
     return 1;
 }
 
-int main(int argc, char **argv) {
-    static char text[2 * MOST + 512], map_word[2 * MOST + 2], out_word[512];
-    static uint8_t map_bytes[MOST], expected[256];
-    unsigned long calls = 0, wrong = 0;
-    FILE *f = argc == 2 ? fopen(argv[1], "r") : NULL;
+static char text[2 * MOST + 512], map_word[2 * MOST + 2], out_word[512];
+static uint8_t map_bytes[MOST], expected[256];
+static unsigned long calls, wrong;
+
+static FILE *opened(const char *name) {
+    FILE *f = fopen(name, "r");
     if (f == NULL) {
-        fprintf(stderr, "usage: crush_place_test VECTORS\n");
-        return 2;
+        fprintf(stderr, "cannot open %s\n", name);
+        exit(2);
     }
+    return f;
+}
+
+static void bad_line(void) {
+    fprintf(stderr, "bad line %lu\n", calls + 1);
+    exit(2);
+}
+
+static void place_all(const char *name) {
+    FILE *f = opened(name);
     while (fgets(text, sizeof text, f) != NULL) {
         unsigned long group, size, number, places, tries;
-        if (sscanf(text, "%140001s %lu %lu %lu %lu %lu %511s", map_word, &group, &size, &number, &places, &tries, out_word) != 7) {
-            fprintf(stderr, "bad line %lu\n", calls + 1);
-            return 2;
-        }
+        if (sscanf(text, "%140001s %lu %lu %lu %lu %lu %511s", map_word, &group, &size, &number, &places, &tries, out_word) != 7)
+            bad_line();
         size_t n = bytes_of(map_word, map_bytes);
         size_t wrote = bytes_of(out_word, expected);
         uint8_t *map = guarded(n, 0), *out = guarded(size, 0x5a);
@@ -70,6 +79,37 @@ int main(int argc, char **argv) {
         free(out - CANARY);
     }
     fclose(f);
-    printf("%lu calls, %lu wrong\n", calls, wrong);
-    return wrong == 0 && calls > 0 ? 0 : 1;
+}
+
+static void days_all(const char *name) {
+    FILE *f = opened(name);
+    while (fgets(text, sizeof text, f) != NULL) {
+        unsigned long show, day, number, group;
+        if (sscanf(text, "%140001s %lu %lu %lu %lu", map_word, &show, &day, &number, &group) != 5)
+            bad_line();
+        size_t n = bytes_of(map_word, map_bytes);
+        uint8_t *map = guarded(n, 0);
+        memcpy(map, map_bytes, n);
+        struct crush_day r = crush_day_group(map, n, (uint32_t)show, (uint32_t)day);
+        int ok = r.number == number && r.group == group && memcmp(map, map_bytes, n) == 0 && intact(map, n);
+        calls++;
+        if (!ok) {
+            wrong++;
+            fprintf(stderr, "call %lu: got %u %u, expected %lu %lu\n", calls, r.number, r.group, number, group);
+        }
+        free(map - CANARY);
+    }
+    fclose(f);
+}
+
+int main(int argc, char **argv) {
+    if (argc != 3) {
+        fprintf(stderr, "usage: crush_place_test PLACES DAYS\n");
+        return 2;
+    }
+    place_all(argv[1]);
+    unsigned long placed = calls;
+    days_all(argv[2]);
+    printf("%lu calls, %lu of them of days, %lu wrong\n", calls, calls - placed, wrong);
+    return wrong == 0 && placed > 0 && calls > placed ? 0 : 1;
 }

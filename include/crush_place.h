@@ -15,17 +15,67 @@ extern "C" {
 
 /* What a call answers. */
 struct crush_placing {
-    uint32_t number; /* 0, or the number of the first question answered no: 1 to 13 (the map), 15 (the group), 16 (the space) */
-    uint32_t places; /* how many places were written: W, or 0 on a refusal */
+    uint32_t number; /* 0, or the number of the first question answered no: see below */
+    uint32_t places; /* how many places were written: W, the width of the map's lists, 1 to 32; or 0 on a refusal */
     uint32_t tries;  /* how many tries the list took, or 0 on a refusal */
 };
 
 /*
- * Writes the list of `group` by the map whose frames are the `map_len` bytes at `map`: each place is two bytes, high byte first, the number of
- * a drive or 0xffff for a hole. `out` has room for `out_len` bytes; 2 * W are written, and what lies beyond stays as it is. A refusal writes
- * nothing. The map is only read. `map` and `out` must not overlap. A length of 0 goes with any pointer that is not null.
+ * Writes the list of a group over the front of a space: each place is two bytes, high byte first, the number of a drive (0 to 1023) or 0xffff for
+ * a hole.
+ *
+ *   map      the map's frames: lines of hexadecimal digits, each ended by a newline. It is only read, and its length alone ends it: no byte 0 is
+ *            looked for.
+ *   map_len  how many bytes the frames have.
+ *   group    the group to place, from 0 on.
+ *   out      space for the list. A refusal writes nothing there.
+ *   out_len  how many bytes of space there are. 64 are enough for every map; 2 * W are needed and written, and what lies beyond stays as it is.
+ *
+ * `map` and `out` must not overlap and must not be null, also where their length is 0. They need no alignment.
+ *
+ * The questions are put in this order, each to the whole map before the next. A refusal answers the number of the first one answered no:
+ *
+ *    1  Has the map 1 to 65,536 bytes, the last a newline, all others lower-case hexadecimal digits or newlines?
+ *    2  Is each line of kind 00 to 05, at that kind's length?
+ *    3  Is there one 00 first, then the 01s, 02s, 03s and 04s, and one 05 last?
+ *    4  Does the 05 tell the number of lines before it?
+ *    5  Is each field in its range, and 0 where unused?
+ *    6  Do the devices, the buckets and the (bucket, child) pairs strictly rise?
+ *    7  Is every bucket and child of an 03, and every bucket taken, present?
+ *    8  Is no item a child twice?
+ *    9  Is each child's type below its bucket's?
+ *   10  Has each bucket at most 64 children?
+ *   11  Has the rule 1 to 16 steps, in blocks of take, selects and emit, with types that strictly fall from the bucket taken to 0?
+ *   12  Is the list at most 16 places wide in a block and 32 in all?
+ *   13  Do the drives weigh at most 67,107,840 in all? (No map that comes so far weighs more.)
+ *   15  Is the group below the map's number of groups?
+ *   16  Has the space room for W places?
+ *
+ * 14 is never answered here.
+ *
+ * The function keeps no state, allocates nothing, and calls only memcpy and memset of the C library. Any number of threads may call it at
+ * once, also on one map, as long as nobody writes that map meanwhile and each call has its own space. It always returns. The same bytes and
+ * group give the same answer every time.
  */
 struct crush_placing crush_place(const uint8_t *map, size_t map_len, uint32_t group, uint8_t *out, size_t out_len);
+
+/* Space for every list: 32 places. */
+#define CRUSH_PLACE_MOST 64
+
+/* The place that holds no drive. */
+#define CRUSH_PLACE_HOLE 0xffff
+
+/* What the question for a day's group answers. */
+struct crush_day {
+    uint32_t number; /* 0, or 14 where the map is refused; crush_place says by which question */
+    uint32_t group;  /* the group, or 0 on a refusal */
+};
+
+/*
+ * The group that holds the records of day `day` of show `show` by this map, for which crush_place is then asked. Of the map and of threads the
+ * same holds as there.
+ */
+struct crush_day crush_day_group(const uint8_t *map, size_t map_len, uint32_t show, uint32_t day);
 
 #ifdef __cplusplus
 }

@@ -1,4 +1,4 @@
-// The storage daemon's call, in C: "the map's frames, to which load's questions are put first, the group, and space where each place becomes
+// The storage daemon's calls, in C. Placing: "the map's frames, to which load's questions are put first, the group, and space where each place becomes
 // two bytes, high byte first".
 ghost use mathlib.Core.Path.{_≡_};
 ghost use Prim.Native.Nat.{_*_, _≤_};
@@ -11,8 +11,10 @@ ghost use Rattle.definitions.specs.Rule.{widthOf, placedOf};
 ghost use Rattle.definitions.specs.Load.{loadNumber};
 ghost use Rattle.text.specs.Shape.{shapeOf};
 ghost use Rattle.definitions.specs.Writing.{twoBytes};
-ghost use Rattle.definitions.specs.Calls.{daemonOf};
-ghost use Rattle.engine.specs.Answers.{daemonAnswer};
+ghost use Rattle.definitions.specs.Calls.{dayOf, daemonOf};
+ghost use Rattle.engine.specs.Answers.{dayAnswer, daemonAnswer};
+use crate::day;
+use crate::day::Day;
 use crate::place;
 use crate::place::Placing;
 use crate::row;
@@ -72,4 +74,12 @@ pub extern "C" fn crush_place(map: &[u8], group: u32, out: &mut [u8]) -> Placing
         places: w as u32,
         tries,
     }
+}
+
+// The group of a show's day.
+#[no_mangle]
+pub extern "C" fn crush_day_group(map: &[u8], show: u32, day: u32) -> Day
+    ensures { λ r. ⌜ dayAnswer r ≡ dayOf (now (map .entry)) show day ⌝ }
+{
+    day::day_group(map, show, day)
 }

@@ -10,6 +10,7 @@ use frames::records;
 pub const SEED: u32 = 1315423911;
 
 // 14 or 0, and the group.
+#[repr(C)]
 pub struct Day {
     pub number: u32,
     pub group: u32,

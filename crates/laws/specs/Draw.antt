@@ -5,7 +5,6 @@ use mathlib.Core.List.{List, _++_, map}
 use mathlib.Core.Logic.{_⊎_, inl, inr, ⊎-elim}
 use Prim.Native.Nat.{ℕ, zero, suc, _+_, _*_, _/_, _^_, _<_, _≤_}
 use native.Mathlib.Nat.{le-div-iff-mul-le, le-trans, mul-le-mul-left, div-mul-le-self, eq-or-lt-of-le}
-use native.Mathlib.Numerals.{add-one}
 use native.Mathlib.Omega.{arith}
 use borrow.Author.Tests.{ltb-true, ltb-false, eqb-true, eqb-false, lt-ltb, le-ltb, eq-eqb, ne-eqb}
 use lib.Dec.{ltb, eqb}
@@ -23,11 +22,12 @@ unfolding key
 key-falls c v w p h = le-div-iff-mul-le p .1 (le-trans (mul-le-mul-left (c * 2 ^ 30 / w) h) (div-mul-le-self (c * 2 ^ 30) w))
 
 -- what holds of both arms of a test holds of its outcome
-by-test : (P : Best → Type 0) (t : Bool) {u v : Best} → (t ≡ true → P u) → (t ≡ false → P v) → P (cond t u v)
+pub by-test : (P : Best → Type 0) (t : Bool) {u v : Best} → (t ≡ true → P u) → (t ≡ false → P v) → P (cond t u v)
 by-test P true f g = f refl
 by-test P false f g = g refl
 
-by-zero : (P : Best → Type 0) (w : ℕ) {u v : Best} → (w ≡ 0 → P u) → (0 < w → P v) → P (cond (eqb w 0) u v)
+-- and for the test of a weight against 0
+pub by-zero : (P : Best → Type 0) (w : ℕ) {u v : Best} → (w ≡ 0 → P u) → (0 < w → P v) → P (cond (eqb w 0) u v)
 by-zero P w f g = by-test P (eqb w 0) (λ e. f (eqb-true w 0 e)) (λ e. g (let h : w ≡ 0 → ⊥ = eqb-false w 0 e in omega arith))
 
 never : {t : Bool} → t ≡ true → t ≡ false → ⊥
@@ -53,7 +53,7 @@ pub loses : (i k j l : ℕ) → l ≤ k → (k ≡ l → j ≤ i) → wins i k j
 loses i k j l h f = ⊎-elim (λ (e : l ≡ k). wins-equal i k j l (sym e) ∙ le-ltb i j (f (sym e))) (wins-greater i k j l) (eq-or-lt-of-le h)
 
 -- and what does not win is so
-lost : (i k j l : ℕ) → wins i k j l ≡ false → (l ≤ k) × (k ≡ l → j ≤ i)
+pub lost : (i k j l : ℕ) → wins i k j l ≡ false → (l ≤ k) × (k ≡ l → j ≤ i)
 unfolding wins
 lost i k j l = go (ltb k l) (eqb k l) (ltb i j) refl refl refl
   where
@@ -147,7 +147,7 @@ raised-drawn c a b from-nobody = inr refl
 raised-drawn c a b (from-leads h) = inr refl
 
 -- what holds of each place before n, and of n, holds of each place before n + 1
-one-more : (P : ℕ → Type 0) (n : ℕ) → ((m : ℕ) → m < n → P m) → P n → (m : ℕ) → m < suc n → P m
+pub one-more : (P : ℕ → Type 0) (n : ℕ) → ((m : ℕ) → m < n → P m) → P n → (m : ℕ) → m < suc n → P m
 one-more P n f p m h = ⊎-elim (λ (e : m ≡ n). subst P (sym e) p) (f m) (eq-or-lt-of-le (omega arith))
 
 -- item i leads the first n children: it is one of them, of weight above 0, and none of weight above 0 comes before it
@@ -187,17 +187,6 @@ module _ (seed x r : ℕ) where
   hash-at items hashes rest n e h =
       let f : ℕ → ℕ = λ i. hash3 seed x i r in
       ap (λ (hs : List ℕ). getD hs n 0) e ∙ List·getD-append (map f items) rest 0 n (rw (length-map items f) h) ∙ getD-mapped f items n 0 0 h
-
-  -- of no children, nobody
-  pub best-none : (items weights : List ℕ) → bestTo seed x r items weights 0 ≡ Nobody
-  unfolding bestTo
-  best-none items weights = refl
-
-  -- the first n + 1 children are the first n and one more
-  pub best-more : (items weights : List ℕ) (n : ℕ)
-      → bestTo seed x r items weights (n + 1) ≡ consider seed x r (bestTo seed x r items weights n) (getD items n 0) (getD weights n 0)
-  unfolding bestTo
-  best-more items weights n = rw (add-one n)
 
   -- one child
   consider-raised : (c : ℕ) (a b : Best) (i v w : ℕ) → Heavier c i v w → Raised c a b → Raised c (consider seed x r a i v) (consider seed x r b i w)

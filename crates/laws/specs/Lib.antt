@@ -5,6 +5,7 @@ pub mod Members
 pub mod Hash
 pub mod Logarithm
 pub mod Draw
+pub mod Sparing
 pub mod Loadable
 pub mod Fuel
 pub mod Walk

@@ -148,7 +148,7 @@ square-high A N P B j m n h g =
     (omega (arith, mul-le-mul h h, mul-le-mul-left (P * N ^ j * (P * N ^ j)) g))
 
 -- (1 + 1 / N) ^ j × (1 - j / N) is at most 1
-compound : (N j n : ℕ) → j + n ≡ N → (N + 1) ^ j * n ≤ N ^ j * N
+pub compound : (N j n : ℕ) → j + n ≡ N → (N + 1) ^ j * n ≤ N ^ j * N
 compound N zero n h = rw (pow-zero (N + 1), pow-zero N) (omega arith)
 compound N (suc j) n h =
     let r : (N + 1) ^ j * suc n ≤ N ^ j * N = compound N j (suc n) (omega arith) in

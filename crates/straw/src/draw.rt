@@ -1,11 +1,14 @@
 // The draw: the child of least key, of equal keys the one of smaller item number.
 ghost use mathlib.Core.Path.{_≡_};
 ghost use mathlib.Core.List.{map};
-ghost use Prim.Native.Nat.{ℕ, _≤_};
+ghost use mathlib.Core.Logic.{_⊎_};
+ghost use Prim.Native.Nat.{ℕ, _*_, _^_, _<_, _≤_};
 ghost use lib.ListN.{length, replicate};
 ghost use Rattle.definitions.specs.Lists.{over};
 ghost use Rattle.definitions.specs.Hash.{hash3};
-ghost use Rattle.definitions.specs.Straw.{wins, consider, drawnOf, drawOf};
+ghost use Rattle.definitions.specs.Straw.{key, keyOf, wins, consider, drawnOf, drawOf};
+ghost use Rattle.straw.specs.Guard.{Found, Hashed, Ahead};
+use crate::guard;
 use crate::logarithm;
 use definitions::Best;
 use definitions::Drawn;
@@ -30,7 +33,7 @@ pub fn consider(b: Best, item: u32, k: u32, h: u32) -> Best
     if k == 0 {
         return b;
     }
-    let own = logarithm::key(h, k);
+    let own = logarithm::key(logarithm::cost(h), k);
     match b {
         Best::Nobody => Best::Leads(item, own),
         Best::Leads(j, l) => if wins(item, own, j, l) {
@@ -39,6 +42,18 @@ pub fn consider(b: Best, item: u32, k: u32, h: u32) -> Best
             Best::Leads(j, l)
         },
     }
+}
+
+// The same, unless the child is sure to have a greater key than the guard, of cost c and weight w.
+fn contend(b: Best, item: u32, k: u32, h: u32, c: u32, w: u32) -> Best
+    requires { ⌜ (c ≤ 32 * 2 ^ 20) × (0 < w) ⌝ }
+    ensures { λ d. ⌜ ((seed x r : ℕ) → h ≡ hash3 seed x item r
+        → (d ≡ consider seed x r b item k) ⊎ ((d ≡ b) × (0 < k → key c w < keyOf seed x r item k))) ⌝ }
+{
+    if guard::spared(h, k, c, w) {
+        return b;
+    }
+    consider(b, item, k, h)
 }
 
 fn answer(b: Best) -> Drawn
@@ -64,17 +79,34 @@ pub fn hash_children(seed: u32, x: u32, r: u32, items: &[u32]) -> [u32; 64]
     hashes
 }
 
+// The best of all children, where the one at place g is the guard.
+fn contest(items: &[u32], weights: &[u32], hashes: &[u32], g: usize) -> Best
+    requires { ⌜ (length (now weights) ≡ length (now items)) × (length (now items) ≤ length (now hashes)) × Found (now weights) g ⌝ }
+    ensures { λ b. ⌜ ((seed x r : ℕ) → Hashed seed x r (now (items .entry)) (now (hashes .entry))
+        → Ahead seed x r (now (items .entry)) (now (weights .entry)) g (length (now (items .entry))) b) ⌝ }
+{
+    let w = weights[g];
+    let c = logarithm::cost(hashes[g]);
+    let mut best = Best::Leads(items[g], logarithm::key(c, w));
+    let mut i: usize = 0;
+    while i < items.len() {
+        if i != g {
+            best = contend(best, items[i], weights[i], hashes[i], c, w);
+        }
+        i += 1;
+    }
+    best
+}
+
 // The draw of group x with try number r among children, by their item numbers and their weights.
 pub fn draw(seed: u32, x: u32, r: u32, items: &[u32], weights: &[u32]) -> Drawn
     requires { ⌜ (length (now items) ≤ 64) × (length (now weights) ≡ length (now items)) ⌝ }
     ensures { λ d. ⌜ d ≡ drawOf seed x r (now (items .entry)) (now (weights .entry)) ⌝ }
 {
     let hashes = hash_children(seed, x, r, items);
-    let mut best = Best::Nobody;
-    let mut i: usize = 0;
-    while i < items.len() {
-        best = consider(best, items[i], weights[i], hashes[i]);
-        i += 1;
+    let g = guard::pick(&hashes, weights);
+    if g == weights.len() {
+        return Drawn::Nothing;
     }
-    answer(best)
+    answer(contest(items, weights, &hashes, g))
 }

@@ -40,18 +40,25 @@ pub fn log(u: u64) -> u64
     ((e as u64) << 20) + s.d
 }
 
-fn wide(x: u32) -> u64
+pub fn wide(x: u32) -> u64
     ensures { λ r. ⌜ r ≡ x ⌝ }
 {
     x as u64
 }
 
-// The key of a child of weight k whose hash is h: u is h + 1.
-pub fn key(h: u32, k: u32) -> u64
-    requires { ⌜ 0 < k ⌝ }
-    ensures { λ r. ⌜ r ≡ key (cost (h + 1)) k ⌝ }
+// The cost of a child whose hash is h: u is h + 1.
+pub fn cost(h: u32) -> u32
+    ensures { λ r. ⌜ (r ≡ cost (h + 1)) × (r ≤ 32 * 2 ^ 20) ⌝ }
 {
     let u = wide(h) + 1;
     let c = (32 << 20) - log(u);
-    (c << 30) / wide(k)
+    c as u32
+}
+
+// The key of a child of cost c and weight k.
+pub fn key(c: u32, k: u32) -> u64
+    requires { ⌜ 0 < k ⌝ }
+    ensures { λ r. ⌜ r ≡ key c k ⌝ }
+{
+    (wide(c) << 30) / wide(k)
 }

@@ -1,93 +1,56 @@
--- `straw::draw::draw` meets its contract. The invariant: the best of the children so far. Assumes nothing.
-use mathlib.Core.Path.{_≡_, sym, ap, _∙_}
-use Prim.Native.Nat.{_≤_, _<_, _-_}
+-- `straw::draw::draw` meets its contract: without a guard all weights are 0, and else the contest ends with the winner. Assumes nothing.
+use mathlib.Core.Path.{sym, _∙_}
+use mathlib.Core.Logic.{⊎-elim}
 use native.Mathlib.Omega.{arith}
-use lib.ListN.{length}
 use borrow.Author.Needs.{needs}
-use Rattle.definitions.specs.Straw.{bestTo, drawnOf, drawOf}
-use Rattle.laws.specs.Draw.{hash-at, best-none, best-more}
+use Rattle.laws.specs.Draw.{hash-at, none-exactly}
+use Rattle.straw.specs.Guard.{ahead-all}
 use Rattle.straw.proofs.draw.draw.Statement.{statement}
 use Rattle.straw.proofs.draw.draw.Tie as tie
 
-abbrev Inv-loop : tie.InvT-loop
-Inv-loop seed x r items weights hashes best₀ i₀ best i = (i ≤ length items) × (best ≡ bestTo seed x r items weights i)
-
-abbrev μ-loop : tie.MeasureT-loop
-μ-loop seed x r items weights hashes best₀ i₀ best i = length items - i
-
-hash-children-requires : tie.Need-hash-children-requires Inv-loop μ-loop
+hash-children-requires : tie.Need-hash-children-requires
 hash-children-requires c κs = search needs
 
-loop-holds : tie.Need-loop-holds Inv-loop μ-loop
-loop-holds c = (search needs, sym (best-none _ _ _ _ _))
+slice-aggregate-pick : tie.Need-slice-aggregate-pick
+slice-aggregate-pick c = search needs
 
-mul-consider : tie.Need-mul-consider Inv-loop μ-loop
-mul-consider c = search needs
+pick-requires : tie.Need-pick-requires
+pick-requires c κs = search needs
 
-shared-slice-read-consider : tie.Need-shared-slice-read-consider Inv-loop μ-loop
-shared-slice-read-consider c = search needs
+returns : tie.Need-returns
+returns c =
+    let a = c .before .before .before .before .before .before .args in
+    sym (none-exactly (a .seed) (a .x) (a .r) (a .items .now) (a .weights .now) .1
+    (λ n h. ⊎-elim (λ f. absurd (omega (arith, c .if1 .taken, f .0))) (λ f. f .1 n (omega arith)) (c .before .pick .ensures)))
 
-mul-consider-2 : tie.Need-mul-consider-2 Inv-loop μ-loop
-mul-consider-2 c = search needs
+slice-aggregate-contest : tie.Need-slice-aggregate-contest
+slice-aggregate-contest c = search needs
 
-shared-slice-read-consider-2 : tie.Need-shared-slice-read-consider-2 Inv-loop μ-loop
-shared-slice-read-consider-2 c = search needs
+contest-requires : tie.Need-contest-requires
+contest-requires c κs =
+    (search needs, search needs, ⊎-elim (λ f. f) (λ f. absurd (c .before .if1 .left (f .0))) (c .before .before .pick .ensures))
 
-mul-consider-3 : tie.Need-mul-consider-3 Inv-loop μ-loop
-mul-consider-3 c = search needs
-
-array-read-consider : tie.Need-array-read-consider Inv-loop μ-loop
-array-read-consider c = omega (arith, c .before .before .before .before .before .before .before .pre .0)
-
-consider-requires : tie.Need-consider-requires Inv-loop μ-loop
-consider-requires c κs = search needs
-
-add-i : tie.Need-add-i Inv-loop μ-loop
-add-i c = search needs
-
-loop-less : tie.Need-loop-less Inv-loop μ-loop
-loop-less c = search needs
-
-loop-again : tie.Need-loop-again Inv-loop μ-loop
-loop-again c =
-    let l = c .before .before .before .before in
-    let k = l .before in
-    let a = k .before .before .before .args in
-    let i = l .loop .i in
-    let h : i < length (a .items .now) = omega arith in (
-      omega arith,
-      c .consider .ensures (a .seed) (a .x) (a .r) (hash-at (a .seed) (a .x) (a .r) (a .items .now) _ _ i (k .hash-children .ensures) h)
-          ∙ rw (l .loop .inv .1) (sym (best-more (a .seed) (a .x) (a .r) (a .items .now) (a .weights .now) i)),
-    )
-
-answer-requires : tie.Need-answer-requires Inv-loop μ-loop
+answer-requires : tie.Need-answer-requires
 answer-requires c κs = search needs
 
-returns : tie.Need-returns Inv-loop μ-loop
-unfolding drawOf
-returns c =
-    let l = c .before .before in
-    let a = l .before .before .before .before .args in
-    let e : l .loop .i ≡ length (a .items .now) = omega arith in
-    c .answer .ensures ∙ ap drawnOf (l .loop .inv .1 ∙ ap (bestTo (a .seed) (a .x) (a .r) (a .items .now) (a .weights .now)) e)
+returns-2 : tie.Need-returns-2
+returns-2 c =
+    let k = c .before .before .before .before .before .before in
+    let a = k .before .before .before .args in
+    c .answer .ensures
+    ∙ ahead-all (a .seed) (a .x) (a .r) (a .items .now) (a .weights .now) _ _
+    (c .before .contest .ensures (a .seed) (a .x) (a .r)
+    (λ n h. hash-at (a .seed) (a .x) (a .r) (a .items .now) _ _ n (k .hash-children .ensures) h))
 
 pub draw-spec : {M : Type 1} → statement M
 draw-spec =
     tie.close
     (tie.spec
-    Inv-loop
-    μ-loop
     hash-children-requires
-    loop-holds
-    mul-consider
-    shared-slice-read-consider
-    mul-consider-2
-    shared-slice-read-consider-2
-    mul-consider-3
-    array-read-consider
-    consider-requires
-    add-i
-    loop-less
-    loop-again
+    slice-aggregate-pick
+    pick-requires
+    returns
+    slice-aggregate-contest
+    contest-requires
     answer-requires
-    returns)
+    returns-2)

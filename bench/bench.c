@@ -1,0 +1,209 @@
+/*
+ * Measures the engine and plain C on one map, by turns, and compares what they give byte for byte.
+ *
+ * usage: bench fill MAP ROUNDS | all MAP ROUNDS
+ *
+ * A line for each call: its name, the engine's and plain C's nanoseconds, best of all rounds; for the edits also how many places moved in how
+ * many edits. The time is the thread's own on the processor, so that other programs disturb it little.
+ */
+#define _POSIX_C_SOURCE 200809L
+#include "../include/crush_place.h"
+#include "plain.h"
+
+#include <stdio.h>
+#include <stdlib.h>
+#include <string.h>
+#include <time.h>
+
+enum { MOST = 65537, PLACES = 65536 * 4, SPACE = 1 << 20, MOVE = 23, CAUSE = 20, FIRST = 11, LINE = 23, HASHES = 100000 };
+
+/* The exports of crates/bench. */
+struct bench_filling {
+    uint32_t number;
+    size_t places;
+};
+struct bench_made {
+    uint32_t number, moves;
+};
+uint32_t bench_load(const uint8_t *map, size_t len);
+struct bench_filling bench_fill(const uint8_t *map, size_t len, uint16_t *table, size_t table_len);
+struct bench_made bench_edit(uint8_t *map, size_t len, uint16_t *table, size_t table_len, const uint8_t *frame, size_t frame_len, uint8_t *space,
+                             size_t space_len);
+uint32_t bench_hash(uint32_t p, uint32_t q, uint32_t s);
+
+static uint8_t map[MOST], map2[MOST], space[SPACE], space2[SPACE];
+static uint16_t table[PLACES], table2[PLACES], edited[PLACES];
+static size_t len, places;
+static uint32_t groups;
+
+static double now(void) {
+    struct timespec t;
+    clock_gettime(CLOCK_THREAD_CPUTIME_ID, &t);
+    return (double)t.tv_sec * 1e9 + (double)t.tv_nsec;
+}
+
+static void expect(int equal, const char *what) {
+    if (equal)
+        return;
+    fprintf(stderr, "unequal: %s\n", what);
+    exit(1);
+}
+
+struct pair {
+    double engine, plain;
+};
+
+static void keep_least(double *best, double took) {
+    if (*best == 0 || took < *best)
+        *best = took;
+}
+
+static void print_pair(const char *name, struct pair best, double calls) { printf("%s %.1f %.1f\n", name, best.engine / calls, best.plain / calls); }
+
+static void load_once(struct pair *best) {
+    double a = now();
+    uint32_t x = bench_load(map, len);
+    double b = now();
+    uint32_t y = plain_load(map, len);
+    double c = now();
+    expect(x == 0 && y == 0, "load");
+    keep_least(&best->engine, b - a);
+    keep_least(&best->plain, c - b);
+}
+
+/* A call by the daemon's function; the group changes from round to round, and each is compared with its row. */
+static void place_once(struct pair *best, uint32_t group) {
+    uint8_t out[64], out2[64];
+    double a = now();
+    struct crush_placing x = crush_place(map, len, group, out, sizeof out);
+    double b = now();
+    struct plain_placing y = plain_place(map, len, group, out2, sizeof out2);
+    double c = now();
+    expect(x.number == 0 && y.number == 0 && x.places == y.places && x.tries == y.tries, "place: number, places or tries");
+    expect(memcmp(out, out2, 2 * (size_t)x.places) == 0, "place: the list");
+    for (uint32_t i = 0; i < x.places; i++)
+        expect(table[(size_t)group * x.places + i] == out[2 * i] * 256 + out[2 * i + 1], "place: the row");
+    keep_least(&best->engine, b - a);
+    keep_least(&best->plain, c - b);
+}
+
+static void fill_once(struct pair *best) {
+    memset(table, 0x5a, sizeof table);
+    memset(table2, 0x5a, sizeof table2);
+    double a = now();
+    struct bench_filling x = bench_fill(map, len, table, PLACES);
+    double b = now();
+    uint32_t y = plain_fill(map, len, table2, PLACES);
+    double c = now();
+    expect(x.number == 0 && y == 0, "fill: number");
+    places = x.places;
+    expect(memcmp(table, table2, sizeof table) == 0, "fill: the table");
+    keep_least(&best->engine, b - a);
+    keep_least(&best->plain, c - b);
+}
+
+/* One edit; the moves are compared but for their causes, which plain C does not have. */
+static uint32_t edit_once(struct pair *best, const char *frame) {
+    const uint8_t *f = (const uint8_t *)frame;
+    memcpy(map2, map, len);
+    memcpy(table2, table, sizeof table);
+    double a = now();
+    struct bench_made x = bench_edit(map, len, table, PLACES, f, 14, space, SPACE);
+    double b = now();
+    struct plain_made y = plain_edit(map2, len, table2, PLACES, f, 14, space2, SPACE);
+    double c = now();
+    expect(x.number == 0 && y.number == 0 && x.moves == y.moves, "edit: number or moves");
+    expect(memcmp(map, map2, len) == 0 && memcmp(table, table2, sizeof table) == 0, "edit: the map or the table");
+    for (size_t i = 0; i < x.moves; i++)
+        expect(memcmp(space + MOVE * i, space2 + MOVE * i, CAUSE) == 0, "edit: a move");
+    keep_least(&best->engine, b - a);
+    keep_least(&best->plain, c - b);
+    return x.moves;
+}
+
+/* Hashes in a chain, so that none begins before the one ahead of it has ended. */
+static void hash_once(struct pair *best) {
+    uint32_t x = 0, y = 0;
+    double a = now();
+    for (uint32_t i = 0; i < HASHES; i++)
+        x = bench_hash(x, i, 1);
+    double b = now();
+    for (uint32_t i = 0; i < HASHES; i++)
+        y = plain_hash(y, i, 1);
+    double c = now();
+    expect(x == y, "hash");
+    keep_least(&best->engine, b - a);
+    keep_least(&best->plain, c - b);
+}
+
+static uint32_t field(const uint8_t *at, size_t digits) {
+    char word[9] = {0};
+    memcpy(word, at, digits);
+    return (uint32_t)strtoul(word, NULL, 16);
+}
+
+/* One value of a drive changed and set back, again and again: only few places move. After each edit the table has to be a fresh fill, which is
+ * timed too, so that edit and fill stand beside each other. */
+static void edits(const char *name, int rounds, unsigned kind, uint32_t drive, uint32_t changed, uint32_t back, struct pair *fill) {
+    struct pair best = {0, 0};
+    uint32_t moves = 0;
+    char frame[15];
+    for (int i = 0; i < 2 * rounds; i++) {
+        snprintf(frame, sizeof frame, "%02x%04x%08x", kind, drive & 0xffff, i % 2 == 0 ? changed : back);
+        moves += edit_once(&best, frame);
+        memcpy(edited, table, places * sizeof *table);
+        fill_once(fill);
+        expect(memcmp(edited, table, places * sizeof *table) == 0, "edit: a fresh fill");
+    }
+    print_pair(name, best, 1);
+    printf("moves-%s %u %d\n", name, moves, 2 * rounds);
+}
+
+static void take_map(const char *path) {
+    FILE *f = fopen(path, "rb");
+    if (f == NULL) {
+        perror(path);
+        exit(2);
+    }
+    len = fread(map, 1, sizeof map, f);
+    fclose(f);
+    uint32_t number = bench_load(map, len);
+    if (number != 0 || plain_load(map, len) != 0) {
+        fprintf(stderr, "%s: refused, %u and %u\n", path, number, plain_load(map, len));
+        exit(1);
+    }
+    groups = field(map + 2, 8);
+}
+
+int main(int argc, char **argv) {
+    struct pair load = {0, 0}, place = {0, 0}, fill = {0, 0}, hash = {0, 0};
+    if (argc != 4 || (strcmp(argv[1], "fill") != 0 && strcmp(argv[1], "all") != 0)) {
+        fprintf(stderr, "usage: bench fill|all MAP ROUNDS\n");
+        return 2;
+    }
+    take_map(argv[2]);
+    int rounds = atoi(argv[3]);
+    for (int i = 0; i < rounds; i++)
+        fill_once(&fill);
+    if (strcmp(argv[1], "fill") == 0) {
+        print_pair("fill", fill, 1);
+        return 0;
+    }
+    for (int i = 0; i < 50 * rounds; i++)
+        load_once(&load);
+    print_pair("load", load, 1);
+    for (int i = 0; i < 50 * rounds; i++)
+        place_once(&place, (uint32_t)i * 101 % groups);
+    print_pair("place", place, 1);
+    for (int i = 0; i < rounds; i++)
+        hash_once(&hash);
+    print_pair("hash", hash, HASHES);
+    /* the first drive of group 0 fails and comes back, then loses half of its weight and has it again; drives stand in line by number */
+    uint32_t drive = table[0];
+    expect(drive < 1024, "fill: group 0 begins with a drive");
+    uint32_t weight = field(map + FIRST + LINE * drive + 6, 8);
+    edits("acceptance", rounds, 0x21, drive, 0, 0x10000, &fill);
+    edits("weight", rounds, 0x22, drive, weight / 2, weight, &fill);
+    print_pair("fill", fill, 1);
+    return 0;
+}

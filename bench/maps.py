@@ -1,0 +1,78 @@
+"""Maps for the benchmark: sites, cabinets and drives under one root, with a rule that puts copies on different sites."""
+
+ROOT, SITE, CABINET = 3, 2, 1  # types
+TAKE, INDEPENDENT, EMIT = 1, 3, 4
+FULL = 65536
+BASE = 65536  # a bucket's item number is this and its own number
+
+
+def text_of(groups, devices, buckets, links, steps):
+    """The frames of a map. devices: (number, weight, acceptance); buckets: (number, type); links: (bucket, child); steps: (step, count, type,
+    bucket)."""
+    lines = [f"00{groups:08x}"]
+    lines += [f"01{n:04x}{weight:08x}{acceptance:08x}" for n, weight, acceptance in devices]
+    lines += [f"02{n:04x}{kind:02x}" for n, kind in buckets]
+    lines += [f"03{bucket:04x}{child:08x}" for bucket, child in sorted(links)]
+    lines += [f"04{step:02x}{count:02x}{kind:02x}{bucket:04x}" for step, count, kind, bucket in steps]
+    lines.append(f"05{len(lines):04x}")
+    return "".join(line + "\n" for line in lines)
+
+
+def hierarchy(groups, sites, cabinets, drives, weight=lambda n: 4096, acceptance=lambda n: FULL, copies=3):
+    """sites of so many cabinets, each of so many drives; the copies lie on different sites."""
+    devices, buckets, links = [], [(0, ROOT)], []
+    for site in range(sites):
+        s = len(buckets)
+        buckets.append((s, SITE))
+        links.append((0, BASE + s))
+        for _ in range(cabinets):
+            c = len(buckets)
+            buckets.append((c, CABINET))
+            links.append((s, BASE + c))
+            for _ in range(drives):
+                n = len(devices)
+                devices.append((n, weight(n), acceptance(n)))
+                links.append((c, n))
+    steps = [(TAKE, 0, 0, 0), (INDEPENDENT, copies, SITE, 0), (INDEPENDENT, 1, 0, 0), (EMIT, 0, 0, 0)]
+    return text_of(groups, devices, buckets, links, steps)
+
+
+def two_levels(groups, cabinets, drives, copies=3):
+    """One root of so many cabinets, each of so many drives; the copies lie in different cabinets."""
+    devices, buckets, links = [], [(0, ROOT)], []
+    for _ in range(cabinets):
+        c = len(buckets)
+        buckets.append((c, CABINET))
+        links.append((0, BASE + c))
+        for _ in range(drives):
+            n = len(devices)
+            devices.append((n, 4096, FULL))
+            links.append((c, n))
+    steps = [(TAKE, 0, 0, 0), (INDEPENDENT, copies, CABINET, 0), (INDEPENDENT, 1, 0, 0), (EMIT, 0, 0, 0)]
+    return text_of(groups, devices, buckets, links, steps)
+
+
+def mixed(n):
+    """Drives of four sizes, in no order that the hierarchy has."""
+    return (2048, 4096, 8192, 16384)[n * 7 % 13 % 4]
+
+
+def half(n):
+    """Every second drive takes nothing."""
+    return FULL if n % 2 == 0 else 0
+
+
+# the four maps of the table: 1,024 drives each
+COMPARED = [
+    ("equal", "4 x 16 x 16, equal weights", lambda: hierarchy(1024, 4, 16, 16)),
+    ("mixed", "4 x 16 x 16, mixed weights", lambda: hierarchy(1024, 4, 16, 16, weight=mixed)),
+    ("wide", "16 x 64, buckets of 64", lambda: two_levels(1024, 16, 64)),
+    ("half", "4 x 16 x 16, half at acceptance 0", lambda: hierarchy(1024, 4, 16, 16, acceptance=half)),
+]
+
+# how fill's time grows: (what grows, [(its number, map)])
+GROWTH = [
+    ("groups", "4 x 16 x 16 drives", [(g, lambda g=g: hierarchy(g, 4, 16, 16)) for g in (256, 512, 1024, 2048, 4096)]),
+    ("drives", "4 sites, 16 drives a cabinet, 1,024 groups", [(64 * k, lambda k=k: hierarchy(1024, 4, k, 16)) for k in (1, 2, 4, 8, 16)]),
+    ("children of a bucket", "4 x 4 cabinets, 1,024 groups", [(c, lambda c=c: hierarchy(1024, 4, 4, c)) for c in (4, 8, 16, 32, 64)]),
+]

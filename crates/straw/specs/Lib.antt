@@ -1,0 +1,2 @@
+-- The draw with a guard.
+pub mod Guard
