@@ -29,7 +29,7 @@ uint32_t bench_load(const uint8_t *map, size_t len);
 struct bench_filling bench_fill(const uint8_t *map, size_t len, uint16_t *table, size_t table_len);
 struct bench_made bench_edit(uint8_t *map, size_t len, uint16_t *table, size_t table_len, const uint8_t *frame, size_t frame_len, uint8_t *space,
                              size_t space_len);
-uint32_t bench_hash(uint32_t p, uint32_t q, uint32_t s);
+uint32_t bench_hash(uint32_t p, uint32_t q);
 
 static uint8_t map[MOST], map2[MOST], space[SPACE], space2[SPACE];
 static uint16_t table[PLACES], table2[PLACES], edited[PLACES];
@@ -126,10 +126,10 @@ static void hash_once(struct pair *best) {
     uint32_t x = 0, y = 0;
     double a = now();
     for (uint32_t i = 0; i < HASHES; i++)
-        x = bench_hash(x, i, 1);
+        x = bench_hash(x, i);
     double b = now();
     for (uint32_t i = 0; i < HASHES; i++)
-        y = plain_hash(y, i, 1);
+        y = plain_hash(y, i);
     double c = now();
     expect(x == y, "hash");
     keep_least(&best->engine, b - a);

@@ -631,4 +631,4 @@ struct plain_made plain_edit(uint8_t *text, size_t len, uint16_t *table, size_t 
     return r;
 }
 
-uint32_t plain_hash(uint32_t p, uint32_t q, uint32_t s) { return hash3(p, q, s); }
+uint32_t plain_hash(uint32_t p, uint32_t q) { return hash2(p, q); }

@@ -24,6 +24,6 @@ uint32_t plain_fill(const uint8_t *text, size_t len, uint16_t *table, size_t tab
 /* The moves have 00 where the engine has the cause: plain C fills twice and compares, and does not look where the walks part. */
 struct plain_made plain_edit(uint8_t *text, size_t len, uint16_t *table, size_t table_len, const uint8_t *frame, size_t frame_len, uint8_t *space,
                              size_t space_len);
-uint32_t plain_hash(uint32_t p, uint32_t q, uint32_t s); /* the hash of three */
+uint32_t plain_hash(uint32_t p, uint32_t q); /* the hash of two */
 
 #endif

@@ -1,6 +1,6 @@
 // What the benchmark in C calls of the engine and the product does not export for C: each function has the contract of the one that it calls.
 ghost use mathlib.Core.Path.{_≡_};
-ghost use Rattle.definitions.specs.Hash.{hash3};
+ghost use Rattle.definitions.specs.Hash.{hash2};
 ghost use Rattle.definitions.specs.Calls.{loadOf, fillOf, editOf};
 use engine::day;
 use engine::edit;
@@ -56,9 +56,10 @@ pub extern "C" fn bench_edit(
     }
 }
 
+// The hash of two: a call of the hash of three from here would be its second one, and it would then be inlined nowhere.
 #[no_mangle]
-pub extern "C" fn bench_hash(p: u32, q: u32, s: u32) -> u32
-    ensures { λ h. ⌜ h ≡ hash3 1315423911 p q s ⌝ }
+pub extern "C" fn bench_hash(p: u32, q: u32) -> u32
+    ensures { λ h. ⌜ h ≡ hash2 1315423911 p q ⌝ }
 {
-    jenkins::hash3(day::SEED, p, q, s)
+    jenkins::hash2(day::SEED, p, q)
 }
