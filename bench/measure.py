@@ -1,5 +1,5 @@
 #!/usr/bin/env python3
-"""Runs the programs `bench` and `bench-branchless` on each map, prints the ratios of the engine to plain C, and writes growth.json for the plot.
+"""Runs the programs `bench` and `bench-branchless` on each map, prints the ratios of plain C to the engine, and writes growth.json for the plot.
 
 usage: measure.py DIR ROUNDS: DIR holds the programs and takes the maps. The exit status is not 0 where results differ or edit is over its
 budget."""
@@ -24,7 +24,7 @@ def run(folder, what, name, text, rounds, program="bench"):
 
 
 def ratio(pair):
-    return f"{pair[0] / pair[1]:.2f}"
+    return f"{pair[1] / pair[0]:.2f}"
 
 
 def time_of(nanoseconds):
@@ -42,7 +42,7 @@ def print_table(rows):
 def main():
     folder, rounds = pathlib.Path(sys.argv[1]), int(sys.argv[2])
     over = False
-    ratios = [["engine / plain C, 1,024 drives", "load", "place", "fill", "fill*", "edit 21", "edit 22", "hash"]]
+    ratios = [["plain C / engine, 1,024 drives", "load", "place", "fill", "fill*", "edit 21", "edit 22", "hash"]]
     times = [["the engine's own times", "load", "place", "fill", "edit 21", "edit 22", "hash"]]
     fills = [["edit / fill in the engine", "edit 21", "edit 22", "moves 21", "moves 22"]]
     for name, title, text in maps.COMPARED:

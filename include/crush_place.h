@@ -53,7 +53,7 @@ struct crush_placing {
  *
  * 14 is never answered here.
  *
- * The function keeps no state, allocates nothing, and calls only memcpy and memset of the C library. Any number of threads may call it at
+ * The function keeps no state, allocates nothing, and calls only memcpy and memset of the C library. 96 KiB of stack are enough. Any number of threads may call it at
  * once, also on one map, as long as nobody writes that map meanwhile and each call has its own space. It always returns. The same bytes and
  * group give the same answer every time.
  */

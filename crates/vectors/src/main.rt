@@ -1,0 +1,423 @@
+// Compares the engine with a CRUSH by another hand. The file `cases` of data/ holds maps with edits and what that CRUSH gave for each:
+// the rows as program `fill` prints them, a frame `12` with the tries (8) behind each row of a group below 64, what each edit prints, and
+// the map that is left; or the one refusal of load or fill.
+ghost use mathlib.Core.Path.{_≡_};
+ghost use Prim.Native.Nat.{_+_, _*_, _≤_};
+ghost use lib.ListN.{length};
+use frames::digits;
+use libc::STDOUT_FILENO;
+use report::edits;
+use report::edits::Line;
+
+// Where a comparison stands that met a difference: behind every byte wanted.
+const LOST: usize = usize::MAX;
+
+// Tries are compared for the groups below this.
+const TRIED: u32 = 64;
+
+// The edits of a case: the line under way, and how many of the bytes wanted were met.
+struct Step {
+    line: Line,
+    at: usize,
+}
+
+// How many cases were read, how many of them were wrong, the number of the first of these, or 0, and whether the file has ended.
+struct Tally {
+    cases: u64,
+    wrong: u64,
+    first: u64,
+    ended: bool,
+}
+
+fn wide(x: u32) -> usize
+    ensures { λ r. ⌜ r ≡ x ⌝ }
+{
+    x as usize
+}
+
+// More than load takes, so that a case can be too long.
+fn map_space() -> [u8; 65600]
+    ensures { λ r. ⌜ 65600 ≡ length r ⌝ }
+{
+    [0; 65600]
+}
+
+// The longest answer: 16,384 rows of two places.
+fn want_space() -> [u8; 393216]
+    ensures { λ r. ⌜ 393216 ≡ length r ⌝ }
+{
+    [0; 393216]
+}
+
+// What `fill` lends to the table, in places of 16 bits.
+fn table_space() -> [u16; 32768]
+    ensures { λ r. ⌜ 32768 ≡ length r ⌝ }
+{
+    [0; 32768]
+}
+
+fn row_space() -> [u16; 32]
+    ensures { λ r. ⌜ 32 ≡ length r ⌝ }
+{
+    [0; 32]
+}
+
+// A row's line: 11 bytes, and 4 for each of at most 32 places.
+fn line_space() -> [u8; 139]
+    ensures { λ r. ⌜ 139 ≡ length r ⌝ }
+{
+    [0; 139]
+}
+
+// Where the bytes wanted go on behind a piece that they have from at on; LOST if they do not have it there. So answer the functions below
+// whose names end in agree or agrees, each for its own piece.
+fn agree(want: &[u8], at: usize, piece: &[u8]) -> usize {
+    let mut a = at;
+    let mut i: usize = 0;
+    while i < piece.len() {
+        if a >= want.len() {
+            return LOST;
+        }
+        if want[a] != piece[i] {
+            return LOST;
+        }
+        a += 1;
+        i += 1;
+    }
+    a
+}
+
+// The first n bytes of a space.
+fn front_agrees(space: &[u8], n: usize, want: &[u8], at: usize) -> usize
+    requires { ⌜ n ≤ length (now space) ⌝ }
+{
+    agree(want, at, &space[..n])
+}
+
+fn refusal_agrees(number: u32, want: &[u8]) -> usize {
+    let mut line = [0u8; 5];
+    report::lines::refusal_line(number, &mut line);
+    agree(want, 0, &line)
+}
+
+// A frame of tries.
+fn tries_agree(tries: u32, want: &[u8], at: usize) -> usize {
+    let mut field = [0u8; 8];
+    digits::put_field(&mut field, tries);
+    let kind = agree(want, at, b"12");
+    let value = agree(want, kind, &field);
+    agree(want, value, b"\n")
+}
+
+// A row, by way of line, which has the row line's length.
+fn row_agrees(group: u32, row: &[u16], line: &mut [u8], want: &[u8], at: usize) -> usize
+    requires { ⌜ (length (now line) ≡ 11 + 4 * length (now row)) × (length (now row) ≤ 32) ⌝ }
+{
+    report::lines::row_line(group, row, line);
+    agree(want, at, line)
+}
+
+// A group's row and tries by placing it alone, by way of row.
+fn placed_agrees(
+    map: &[u8],
+    group: u32,
+    row: &mut [u16],
+    line: &mut [u8],
+    want: &[u8],
+    at: usize,
+) -> usize
+    requires { ⌜ (length (now line) ≡ 11 + 4 * length (now row)) × (length (now row) ≤ 32) ⌝ }
+{
+    let placed = engine::place::place(map, group, row);
+    let tried = row_agrees(group, row, line, want, at);
+    tries_agree(placed.tries, want, tried)
+}
+
+// A group: its row in the table, which is also what placing it alone gives.
+fn group_agrees(
+    map: &[u8],
+    group: u32,
+    row: &[u16],
+    space: &mut [u16],
+    line: &mut [u8],
+    want: &[u8],
+    at: usize,
+) -> usize
+    requires { ⌜ (length (now line) ≡ 11 + 4 * length (now row)) × (length (now row) ≤ 32) × (length (now space) ≡ length (now row)) ⌝ }
+{
+    let next = row_agrees(group, row, line, want, at);
+    if next == LOST {
+        return LOST;
+    }
+    if group >= TRIED {
+        return next;
+    }
+    placed_agrees(map, group, space, line, want, at)
+}
+
+// The groups below `groups`, each w places wide.
+fn rows_agree(
+    map: &[u8],
+    table: &[u16],
+    groups: u32,
+    w: usize,
+    space: &mut [u16],
+    line: &mut [u8],
+    want: &[u8],
+) -> usize
+    requires { ⌜ (w ≤ 32) × (groups * w ≤ length (now table)) × (length (now line) ≡ 11 + 4 * w) × (length (now space) ≡ w) ⌝ }
+{
+    let mut at: usize = 0;
+    let mut g: u32 = 0;
+    while g < groups {
+        let a = wide(g) * w;
+        let e = a + w;
+        at = group_agrees(map, g, &table[a..e], space, line, want, at);
+        g += 1;
+    }
+    at
+}
+
+// A filled table.
+fn table_agrees(map: &[u8], table: &[u16], groups: u32, w: usize, want: &[u8]) -> usize
+    requires { ⌜ (w ≤ 32) × (groups * w ≤ length (now table)) ⌝ }
+{
+    let n = 11 + 4 * w;
+    let mut row = row_space();
+    let mut line = line_space();
+    rows_agree(map, table, groups, w, &mut row[..w], &mut line[..n], want)
+}
+
+// What a byte of the edits leads to.
+fn take_byte(
+    map: &mut [u8],
+    table: &mut [u16],
+    s: Step,
+    b: u8,
+    space: &mut [u8],
+    want: &[u8],
+) -> Step
+    requires { ⌜ (5 ≤ length (now space)) × (s .line .count ≤ 15) ⌝ }
+    ensures { λ r. ⌜ r .line .count ≤ 15 ⌝ }
+{
+    let l = s.line;
+    let turn = edits::on_byte(map, table, l, b, space);
+    let at = front_agrees(space, turn.printed, want, s.at);
+    let line = turn.line;
+    Step { line, at }
+}
+
+fn take_bytes(
+    map: &mut [u8],
+    table: &mut [u16],
+    first: Step,
+    given: &[u8],
+    space: &mut [u8],
+    want: &[u8],
+) -> Step
+    requires { ⌜ (5 ≤ length (now space)) × (first .line .count ≤ 15) ⌝ }
+    ensures { λ r. ⌜ r .line .count ≤ 15 ⌝ }
+{
+    let mut s = first;
+    let mut i: usize = 0;
+    while i < given.len() {
+        s = take_byte(map, table, s, given[i], space, want);
+        i += 1;
+    }
+    s
+}
+
+// All edits, with the 64 KiB that `fill` lends to the moves.
+fn edits_agree(map: &mut [u8], table: &mut [u16], given: &[u8], want: &[u8], at: usize) -> usize {
+    let mut space = io::large_buffer();
+    let line = edits::no_line();
+    let last = take_bytes(map, table, Step { line, at }, given, &mut space, want);
+    let l = last.line;
+    let printed = edits::on_end(map, table, l, &mut space);
+    front_agrees(&space, printed, want, last.at)
+}
+
+// The map as it is written.
+fn written_agrees(map: &[u8], want: &[u8], at: usize) -> usize {
+    let mut space = map_space();
+    let written = engine::write::write(map, &mut space);
+    let n = written.bytes;
+    if n > 65600 {
+        return LOST;
+    }
+    front_agrees(&space, n, want, at)
+}
+
+fn same_places(a: &[u16], b: &[u16]) -> bool {
+    if a.len() != b.len() {
+        return false;
+    }
+    let mut i: usize = 0;
+    while i < a.len() {
+        if a[i] != b[i] {
+            return false;
+        }
+        i += 1;
+    }
+    true
+}
+
+// Is the table what filling gives?
+fn is_fresh(map: &[u8], table: &[u16]) -> bool {
+    let mut fresh = table_space();
+    engine::fill::fill(map, &mut fresh);
+    same_places(&fresh, table)
+}
+
+fn size(groups: u32, w: usize) -> usize
+    requires { ⌜ w ≤ 32 ⌝ }
+    ensures { λ r. ⌜ r ≡ groups * w ⌝ }
+{
+    wide(groups) * w
+}
+
+// All that the engine answers to a map and its edits. The edited table is what filling the edited map gives.
+fn answers_agree(map: &mut [u8], given: &[u8], groups: u32, w: usize, want: &[u8]) -> usize {
+    let number = engine::load::load(map);
+    if number != 0 {
+        return refusal_agrees(number, want);
+    }
+    let mut table = table_space();
+    let filled = engine::fill::fill(map, &mut table);
+    if filled.number != 0 {
+        return refusal_agrees(filled.number, want);
+    }
+    if w > 32 {
+        return LOST;
+    }
+    let places = size(groups, w);
+    if places > 32768 {
+        return LOST;
+    }
+    if filled.places != places {
+        return LOST;
+    }
+    let rows = table_agrees(map, &table, groups, w, want);
+    let edited = edits_agree(map, &mut table, given, want, rows);
+    if !is_fresh(map, &table) {
+        return LOST;
+    }
+    written_agrees(map, want, edited)
+}
+
+// Fills the first n bytes of a space from the file.
+fn read_front(fd: i32, space: &mut [u8], n: usize) -> bool
+    requires { ⌜ n ≤ length (now space) ⌝ }
+{
+    io::read_full(fd, &mut space[..n]) == n
+}
+
+// A number of a case's first line, which has five of eight digits, and byte 10.
+fn number(head: &[u8; 41], at: usize) -> usize
+    requires { ⌜ at ≤ 32 ⌝ }
+{
+    wide(digits::field(head, at, 8))
+}
+
+// Reads what follows a case's first line, and answers whether the case is right.
+fn is_right(fd: i32, head: &[u8; 41], map: &mut [u8], given: &mut [u8], want: &mut [u8]) -> bool {
+    let m = number(head, 0);
+    let e = number(head, 8);
+    let n = number(head, 16);
+    let groups = digits::field(head, 24, 8);
+    let w = number(head, 32);
+    if m > map.len() {
+        return false;
+    }
+    if e > given.len() {
+        return false;
+    }
+    if n > want.len() {
+        return false;
+    }
+    if !read_front(fd, map, m) {
+        return false;
+    }
+    if !read_front(fd, given, e) {
+        return false;
+    }
+    if !read_front(fd, want, n) {
+        return false;
+    }
+    answers_agree(&mut map[..m], &given[..e], groups, w, &want[..n]) == n
+}
+
+// A tally with one case more.
+fn counted(t: Tally, right: bool) -> Tally {
+    let cases = std::num::wrapping_add_u64(t.cases, 1);
+    if right {
+        return Tally {
+            cases,
+            wrong: t.wrong,
+            first: t.first,
+            ended: false,
+        };
+    }
+    let first = if t.wrong == 0 { cases } else { t.first };
+    Tally {
+        cases,
+        wrong: std::num::wrapping_add_u64(t.wrong, 1),
+        first,
+        ended: false,
+    }
+}
+
+// Reads the next case and counts it.
+fn count_case(fd: i32, t: Tally, map: &mut [u8], given: &mut [u8], want: &mut [u8]) -> Tally {
+    let mut head = [0u8; 41];
+    let n = io::read_full(fd, &mut head);
+    if n == 0 {
+        return Tally {
+            cases: t.cases,
+            wrong: t.wrong,
+            first: t.first,
+            ended: true,
+        };
+    }
+    counted(t, is_right(fd, &head, map, given, want))
+}
+
+// Reads on to the file's end. A proved loop has to end, and nothing says that the file does: the turns are counted down from a number
+// that no run uses up.
+fn count_cases(fd: i32, map: &mut [u8], given: &mut [u8], want: &mut [u8]) -> Tally {
+    let mut t = Tally {
+        cases: 0,
+        wrong: 0,
+        first: 0,
+        ended: false,
+    };
+    let mut turns = u64::MAX;
+    while turns > 0 {
+        t = count_case(fd, t, map, given, want);
+        if t.ended {
+            return t;
+        }
+        turns -= 1;
+    }
+    t
+}
+
+fn print(t: Tally) {
+    io::print_decimal(STDOUT_FILENO, t.cases);
+    io::write_all(STDOUT_FILENO, b" cases, ");
+    io::print_decimal(STDOUT_FILENO, t.wrong);
+    io::write_all(STDOUT_FILENO, b" wrong");
+    if t.wrong != 0 {
+        io::write_all(STDOUT_FILENO, b", first the one of number ");
+        io::print_decimal(STDOUT_FILENO, t.first);
+    }
+    io::write_all(STDOUT_FILENO, b"\n");
+}
+
+fn main() {
+    let fd = os::open_read(b"cases");
+    let mut map = map_space();
+    let mut given = io::large_buffer();
+    let mut want = want_space();
+    print(count_cases(fd, &mut map, &mut given, &mut want));
+}

@@ -1,0 +1,124 @@
+#!/usr/bin/env python3
+"""Makes the cases of program `vectors` anew: maps with edits, and what a CRUSH by another hand gives for them.
+
+make_vectors.py --oracle DIR: DIR holds that CRUSH as crush.py, fill.py and gen.py. Writes crates/vectors/data/cases and crates/vectors/stdout.
+A case is a line of five numbers of eight digits, then the bytes of the map, of the edits and of the answer: the numbers are these three lengths,
+the groups and the width (0 and 0 of a refused map). The answer is a refusal; or each row, behind those of the groups below 64 a frame `12`
+with the tries (8), then what each edit prints and the map that is left. What is printed are the answers by kind of case."""
+import argparse
+import collections
+import pathlib
+import sys
+
+CRATE = pathlib.Path(__file__).resolve().parent.parent / "crates" / "vectors"
+SEEDS = {"valid": 260, "damaged": 260, "edges": 147, "ambiguous": 10}
+TRIED = 64
+# what the program has space for, in bytes
+MAP, EDITS, ANSWER = 65600, 65536, 393216
+# of cases with more bytes one of a kind, or of an edge, is enough
+LARGE = 20000
+
+M = ["0000000002", "0100000000000100010000", "02000001", "03000000000000", "040100000000", "040302000000", "040400000000", "050007"]
+
+
+def text(lines):
+    return "".join(line + "\n" for line in lines).encode()
+
+
+def samples():
+    """Document 01, "Samples"."""
+    two = ["0000000002", "0100000000000100010000", "02000002", "03000000000000", "040100000000", "040304010000"]
+    yield text(M + ["21000000000000"])
+    yield text(M + ["22000000000000"])
+    yield text([M[0], "0100000000000100000000"] + M[2:])
+    yield text([M[0], "0100000000000000010000"] + M[2:])
+    yield text(two + ["040304000000", "040400000000", "050008"])
+    yield text(two + ["040305000000", "040400000000", "050008"])
+    yield b""
+    yield text(M[:-1] + ["050008"])
+    yield text(M[:4] + M[3:-1] + ["050008"])
+
+
+def answer_of(reference, crush, frames, edits):
+    """The answer, the groups and the width."""
+    mp = crush.load(frames)
+    if isinstance(mp, int):
+        return reference.refusal(mp), 0, 0
+    table = [0] * reference.TABLE_PLACES
+    number, _ = crush.fill(mp, table)
+    if number:
+        return reference.refusal(number), 0, 0
+    groups, w, out = mp.G, mp.W, []
+    for g in range(groups):
+        out.append(b"11%08x" % g + b"".join(b"%04x" % p for p in table[g * w:(g + 1) * w]) + b"\n")
+        if g < TRIED:
+            places, tries = crush.rule(mp, g)
+            assert places == table[g * w:(g + 1) * w]
+            out.append(b"12%08x\n" % tries)
+    for line in edits:
+        if crush.edit_form(line) is None:
+            out.append(reference.refusal(18))
+            continue
+        edited = crush.edit(mp, table, line, reference.MOVES_BYTES, False)
+        if edited.number:
+            out.append(reference.refusal(edited.number))
+            continue
+        mp, table = edited.map, edited.table
+        out.append(edited.bytes())
+    out.append(crush.map_bytes(mp))
+    return b"".join(out), groups, w
+
+
+def name_of(line):
+    """A line's kind: a row, tries, a move with its cause, a refusal with its number, or a frame of a map."""
+    kind = line[:2]
+    if kind == b"13":
+        return "13.." + line[-2:].decode()
+    return line.decode() if kind == b"1f" else {b"11": "rows", b"12": "tries"}.get(kind, "frames")
+
+
+def inputs(gen, large):
+    """Kind, edge and bytes of each input; an edge whose inputs are large comes once."""
+    for given in samples():
+        yield "samples", "samples", given
+    for kind, seeds in SEEDS.items():
+        for seed in range(seeds):
+            edge = f"edge {seed % len(gen.EDGES)}" if kind == "edges" else kind
+            if edge == kind or edge not in large:
+                yield kind, edge, gen.generate(seed, kind)
+
+
+def main():
+    parser = argparse.ArgumentParser(description=__doc__)
+    parser.add_argument("--oracle", type=pathlib.Path, required=True)
+    options = parser.parse_args()
+    sys.path.insert(0, str(options.oracle))
+    import crush
+    import fill as reference
+    import gen
+
+    cases, answers, large, out = collections.Counter(), collections.defaultdict(collections.Counter), set(), []
+    for kind, edge, given in inputs(gen, large):
+        frames, edits = reference.split_input(given)
+        rest = given[len(frames):]
+        if len(frames) > MAP or len(rest) > EDITS or (len(given) > LARGE and edge in large):
+            continue
+        answer, groups, w = answer_of(reference, crush, frames, edits)
+        if len(given) + len(answer) > LARGE:
+            if edge in large:
+                continue
+            large.add(edge)
+        if len(answer) > ANSWER:
+            continue
+        out.append(b"%08x%08x%08x%08x%08x\n" % (len(frames), len(rest), len(answer), groups, w) + frames + rest + answer)
+        cases[kind] += 1
+        answers[kind].update(name_of(line) for line in answer.splitlines())
+    (CRATE / "data" / "cases").write_bytes(b"".join(out))
+    (CRATE / "stdout").write_text(f"{len(out)} cases, 0 wrong\n")
+    for kind, count in cases.items():
+        print(f"{kind}: {count} cases, {dict(sorted(answers[kind].items()))}")
+    print(f"{len(out)} cases, {sum(map(len, out))} bytes")
+
+
+if __name__ == "__main__":
+    main()
