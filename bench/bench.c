@@ -142,6 +142,14 @@ static uint32_t field(const uint8_t *at, size_t digits) {
     return (uint32_t)strtoul(word, NULL, 16);
 }
 
+/* A drive's weight in the map. */
+static uint32_t weight_of(uint32_t drive) {
+    for (const uint8_t *line = map + FIRST; field(line, 2) == 1; line += LINE)
+        if (field(line + 2, 4) == drive)
+            return field(line + 6, 8);
+    return 0;
+}
+
 /* One value of a drive changed and set back, again and again: only few places move. After each edit the table has to be a fresh fill, which is
  * timed too, so that edit and fill stand beside each other. */
 static void edits(const char *name, int rounds, unsigned kind, uint32_t drive, uint32_t changed, uint32_t back, struct pair *fill) {
@@ -198,10 +206,10 @@ int main(int argc, char **argv) {
     for (int i = 0; i < rounds; i++)
         hash_once(&hash);
     print_pair("hash", hash, HASHES);
-    /* the first drive of group 0 fails and comes back, then loses half of its weight and has it again; drives stand in line by number */
+    /* the first drive of group 0 fails and comes back, then loses half of its weight and has it again */
     uint32_t drive = table[0];
     expect(drive < 1024, "fill: group 0 begins with a drive");
-    uint32_t weight = field(map + FIRST + LINE * drive + 6, 8);
+    uint32_t weight = weight_of(drive);
     edits("acceptance", rounds, 0x21, drive, 0, 0x10000, &fill);
     edits("weight", rounds, 0x22, drive, weight / 2, weight, &fill);
     print_pair("fill", fill, 1);

@@ -1,6 +1,6 @@
 """Maps for the benchmark: sites, cabinets and drives under one root, with a rule that puts copies on different sites."""
+import pathlib
 
-ROOT, SITE, CABINET = 3, 2, 1  # types
 TAKE, INDEPENDENT, EMIT = 1, 3, 4
 FULL = 65536
 BASE = 65536  # a bucket's item number is this and its own number
@@ -18,37 +18,24 @@ def text_of(groups, devices, buckets, links, steps):
     return "".join(line + "\n" for line in lines)
 
 
-def hierarchy(groups, sites, cabinets, drives, weight=lambda n: 4096, acceptance=lambda n: FULL, copies=3):
-    """sites of so many cabinets, each of so many drives; the copies lie on different sites."""
-    devices, buckets, links = [], [(0, ROOT)], []
-    for site in range(sites):
-        s = len(buckets)
-        buckets.append((s, SITE))
-        links.append((0, BASE + s))
-        for _ in range(cabinets):
-            c = len(buckets)
-            buckets.append((c, CABINET))
-            links.append((s, BASE + c))
-            for _ in range(drives):
+def tree(groups, counts, weight=lambda n: 4096, acceptance=lambda n: FULL, copies=3):
+    """Buckets in buckets, so many in each by level, at the last level drives; the copies lie in different buckets below the root."""
+    devices, buckets, links = [], [], []
+
+    def bucket(level):
+        number = len(buckets)
+        buckets.append((number, len(counts) - level))
+        for _ in range(counts[level]):
+            if level + 1 < len(counts):
+                links.append((number, BASE + bucket(level + 1)))
+            else:
                 n = len(devices)
                 devices.append((n, weight(n), acceptance(n)))
-                links.append((c, n))
-    steps = [(TAKE, 0, 0, 0), (INDEPENDENT, copies, SITE, 0), (INDEPENDENT, 1, 0, 0), (EMIT, 0, 0, 0)]
-    return text_of(groups, devices, buckets, links, steps)
+                links.append((number, n))
+        return number
 
-
-def two_levels(groups, cabinets, drives, copies=3):
-    """One root of so many cabinets, each of so many drives; the copies lie in different cabinets."""
-    devices, buckets, links = [], [(0, ROOT)], []
-    for _ in range(cabinets):
-        c = len(buckets)
-        buckets.append((c, CABINET))
-        links.append((0, BASE + c))
-        for _ in range(drives):
-            n = len(devices)
-            devices.append((n, 4096, FULL))
-            links.append((c, n))
-    steps = [(TAKE, 0, 0, 0), (INDEPENDENT, copies, CABINET, 0), (INDEPENDENT, 1, 0, 0), (EMIT, 0, 0, 0)]
+    bucket(0)
+    steps = [(TAKE, 0, 0, 0), (INDEPENDENT, copies, len(counts) - 1, 0), (INDEPENDENT, 1, 0, 0), (EMIT, 0, 0, 0)]
     return text_of(groups, devices, buckets, links, steps)
 
 
@@ -62,17 +49,20 @@ def half(n):
     return FULL if n % 2 == 0 else 0
 
 
-# the four maps of the table: 1,024 drives each
+ARCHIVE = pathlib.Path(__file__).resolve().parent.parent / "examples" / "archive.map"
+
+# the maps of the table: 1,024 drives each, and the example archive of 223
 COMPARED = [
-    ("equal", "4 x 16 x 16, equal weights", lambda: hierarchy(1024, 4, 16, 16)),
-    ("mixed", "4 x 16 x 16, mixed weights", lambda: hierarchy(1024, 4, 16, 16, weight=mixed)),
-    ("wide", "16 x 64, buckets of 64", lambda: two_levels(1024, 16, 64)),
-    ("half", "4 x 16 x 16, half at acceptance 0", lambda: hierarchy(1024, 4, 16, 16, acceptance=half)),
+    ("equal", "4 x 16 x 16, equal weights", lambda: tree(1024, (4, 16, 16))),
+    ("mixed", "4 x 16 x 16, mixed weights", lambda: tree(1024, (4, 16, 16), weight=mixed)),
+    ("wide", "16 x 64, buckets of 64", lambda: tree(1024, (16, 64))),
+    ("half", "4 x 16 x 16, half at acceptance 0", lambda: tree(1024, (4, 16, 16), acceptance=half)),
+    ("archive", "examples/archive.map", ARCHIVE.read_text),
 ]
 
 # how fill's time grows: (what grows, [(its number, map)])
 GROWTH = [
-    ("groups", "4 x 16 x 16 drives", [(g, lambda g=g: hierarchy(g, 4, 16, 16)) for g in (256, 512, 1024, 2048, 4096)]),
-    ("drives", "4 sites, 16 drives a cabinet, 1,024 groups", [(64 * k, lambda k=k: hierarchy(1024, 4, k, 16)) for k in (1, 2, 4, 8, 16)]),
-    ("children of a bucket", "4 x 4 cabinets, 1,024 groups", [(c, lambda c=c: hierarchy(1024, 4, 4, c)) for c in (4, 8, 16, 32, 64)]),
+    ("groups", "4 x 16 x 16 drives", [(g, lambda g=g: tree(g, (4, 16, 16))) for g in (256, 512, 1024, 2048, 4096)]),
+    ("drives", "4 sites, 16 drives a cabinet, 1,024 groups", [(64 * k, lambda k=k: tree(1024, (4, k, 16))) for k in (1, 2, 4, 8, 16)]),
+    ("children of a bucket", "4 x 4 cabinets, 1,024 groups", [(c, lambda c=c: tree(1024, (4, 4, c))) for c in (4, 8, 16, 32, 64)]),
 ]

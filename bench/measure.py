@@ -42,7 +42,7 @@ def print_table(rows):
 def main():
     folder, rounds = pathlib.Path(sys.argv[1]), int(sys.argv[2])
     over = False
-    ratios = [["plain C / engine, 1,024 drives", "load", "place", "fill", "fill*", "edit 21", "edit 22", "hash"]]
+    ratios = [["plain C / engine", "load", "place", "fill", "fill*", "edit 21", "edit 22", "hash"]]
     times = [["the engine's own times", "load", "place", "fill", "edit 21", "edit 22", "hash"]]
     fills = [["edit / fill in the engine", "edit 21", "edit 22", "moves 21", "moves 22"]]
     for name, title, text in maps.COMPARED:
