@@ -3,4 +3,4 @@ pub mod Input
 pub mod Lines
 pub mod Edits
 pub mod Kept
-pub mod Front
+pub mod Written

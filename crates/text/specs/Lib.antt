@@ -1,5 +1,6 @@
 -- What follows of a map's text, one file a layer, from its digits to its map and to load.
 pub mod Digits
+pub mod Front
 pub mod Lines
 pub mod Frames
 pub mod Shape

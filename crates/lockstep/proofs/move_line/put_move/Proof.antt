@@ -3,7 +3,8 @@ use mathlib.Core.Path.{sym, ap, _∙_}
 use mathlib.Core.List.{List, [], _∷_, _++_}
 use Prim.Native.Nat.{ℕ}
 use lib.ListN.{length}
-use Rattle.lockstep.specs.MoveLine.{front-none, front-field, front-end, move-fields, length-move}
+use Rattle.text.specs.Front.{front-none, front-field, front-end}
+use Rattle.lockstep.specs.MoveLine.{move-fields, length-move}
 use borrow.Author.Needs.{needs}
 use Rattle.lockstep.proofs.move_line.put_move.Statement.{statement}
 use Rattle.lockstep.proofs.move_line.put_move.Tie as tie
@@ -98,7 +99,7 @@ returns c =
     let f4 = front-field 4 _ (s .args .old) _ f3 (sym (p4 .before .put-field-arg4 .given .1)) (p4 .put-field4 .ensures) in
     let f5 = front-field 4 _ (s .args .new) _ f4 (sym (p5 .before .put-field-arg5 .given .1)) (p5 .put-field5 .ensures) in
     let f6 = front-field 2 _ (s .args .cause) _ f5 (sym (p6 .before .put-field-arg6 .given .1)) (p6 .put-field6 .ensures) in
-    front-end f6 (s .pre) ∙ ap (λ (l : List ℕ). l ++ (10 ∷ [])) (sym (move-fields (record { group = s .args .group; place = s .args .place; old = s .args .old; new = s .args .new; cause = s .args .cause })))
+    front-end 22 f6 (s .pre) ∙ ap (λ (l : List ℕ). l ++ (10 ∷ [])) (sym (move-fields (record { group = s .args .group; place = s .args .place; old = s .args .old; new = s .args .new; cause = s .args .cause })))
 
 same-length : tie.Need-same-length
 same-length c = ap length (returns c) ∙ length-move _ ∙ sym (search needs)

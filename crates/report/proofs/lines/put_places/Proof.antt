@@ -9,7 +9,8 @@ use lib.Seq.{take-all}
 use borrow.Author.Needs.{needs}
 use Rattle.definitions.specs.Lists.{joined}
 use Rattle.definitions.specs.Frames.{hex}
-use Rattle.report.specs.Front.{Front, front-none, front-place, front-all}
+use Rattle.text.specs.Front.{Front, front-none, front-all}
+use Rattle.report.specs.Written.{front-place}
 use Rattle.report.proofs.lines.put_places.Statement.{statement}
 use Rattle.report.proofs.lines.put_places.Tie as tie
 

@@ -1,7 +1,8 @@
 -- `report::lines::refusal_line` meets its contract: field by field, what is written so far is the front of the line. Assumes nothing.
 use mathlib.Core.Path.{sym, ap, _∙_}
 use lib.ListN.{length}
-use Rattle.report.specs.Front.{front-none, front-field, refusal-end, length-refusal}
+use Rattle.text.specs.Front.{front-none, front-field}
+use Rattle.report.specs.Written.{refusal-end, length-refusal}
 use borrow.Author.Needs.{needs}
 use Rattle.report.proofs.lines.refusal_line.Statement.{statement}
 use Rattle.report.proofs.lines.refusal_line.Tie as tie

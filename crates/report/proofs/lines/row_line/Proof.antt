@@ -4,7 +4,8 @@ use Prim.Native.Nat.{_+_, _*_}
 use native.Mathlib.Omega.{arith}
 use native.Mathlib.Nat.{add-sub-cancel-left}
 use lib.ListN.{length}
-use Rattle.report.specs.Front.{front-none, front-field, front-part, length-places, row-end, length-row}
+use Rattle.text.specs.Front.{front-none, front-field, front-part}
+use Rattle.report.specs.Written.{length-places, row-end, length-row}
 use borrow.Author.Needs.{needs}
 use Rattle.report.proofs.lines.row_line.Statement.{statement}
 use Rattle.report.proofs.lines.row_line.Tie as tie
