@@ -53,14 +53,20 @@ struct crush_placing {
  *
  * 14 is never answered here.
  *
- * The function keeps no state, allocates nothing, and calls only memcpy and memset of the C library. 96 KiB of stack are enough. Any number of threads may call it at
+ * The function keeps no state, allocates nothing, and calls only memcpy and memset of the C library. Any number of threads may call it at
  * once, also on one map, as long as nobody writes that map meanwhile and each call has its own space. It always returns. The same bytes and
  * group give the same answer every time.
+ *
+ * The stack that a call takes grows with the levels of the map, of which there are at most 255. CRUSH_PLACE_STACK bytes are enough for every
+ * map: that is measured, with the deepest map, and not proved.
  */
 struct crush_placing crush_place(const uint8_t *map, size_t map_len, uint32_t group, uint8_t *out, size_t out_len);
 
 /* Space for every list: 32 places. */
 #define CRUSH_PLACE_MOST 64
+
+/* Stack for every call. */
+#define CRUSH_PLACE_STACK (256 * 1024)
 
 /* The place that holds no drive. */
 #define CRUSH_PLACE_HOLE 0xffff

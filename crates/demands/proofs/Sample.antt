@@ -94,20 +94,20 @@ pub F-edited : editOf F M-table M-edit lentSpace ≡ record { number = 17; moves
 unfolding computing
 F-edited = refl
 
--- lent at any place, under any name
-module _ (κ-load : Lfts 1) (κ-fill : Lfts 2) (κ-edit : Lfts 4) (at : ℕ × ℕ) (name : ℕ) where
-  abbrev lent : List ℕ → RefT (List ℕ)
-  lent bytes = record { ptr = at; name = name; now = bytes }
+-- what is lent has a place and a name of its own, whichever: 0 is the map, 1 the table, 2 the edit frame, 3 the space
+module _ (κ-load : Lfts 1) (κ-fill : Lfts 2) (κ-edit : Lfts 4) (at : ℕ → ℕ × ℕ) (name : ℕ → ℕ) where
+  abbrev lent : ℕ → List ℕ → RefT (List ℕ)
+  lent k bytes = record { ptr = at k; name = name k; now = bytes }
 
   -- the calls that are lent these
   abbrev pub M-load : LoadCall
-  M-load = load-call-of κ-load (lent M, tt)
+  M-load = load-call-of κ-load (lent 0 M, tt)
 
   abbrev pub M-fill : FillCall
-  M-fill = fill-call-of κ-fill (lent M, (lent lentTable, tt))
+  M-fill = fill-call-of κ-fill (lent 0 M, (lent 1 lentTable, tt))
 
   abbrev pub M-call : EditCall
-  M-call = edit-call-of κ-edit (lent M, (lent M-table, (lent M-edit, (lent lentSpace, tt))))
+  M-call = edit-call-of κ-edit (lent 0 M, (lent 1 M-table, (lent 2 M-edit, (lent 3 lentSpace, tt))))
 
   pub M-start : Start M-load M-fill M lentTable M-table
   M-start =
@@ -133,13 +133,13 @@ module _ (κ-load : Lfts 1) (κ-fill : Lfts 2) (κ-edit : Lfts 4) (at : ℕ × �
   M-kept = demand-3 M-load M-fill (M-call ∷ []) M lentTable M-table M′ M′-table M-start M-independent M-run
 
   abbrev pub F-load : LoadCall
-  F-load = load-call-of κ-load (lent F, tt)
+  F-load = load-call-of κ-load (lent 0 F, tt)
 
   abbrev pub F-fill : FillCall
-  F-fill = fill-call-of κ-fill (lent F, (lent lentTable, tt))
+  F-fill = fill-call-of κ-fill (lent 0 F, (lent 1 lentTable, tt))
 
   abbrev pub F-call : EditCall
-  F-call = edit-call-of κ-edit (lent F, (lent M-table, (lent M-edit, (lent lentSpace, tt))))
+  F-call = edit-call-of κ-edit (lent 0 F, (lent 1 M-table, (lent 2 M-edit, (lent 3 lentSpace, tt))))
 
   pub F-start : Start F-load F-fill F lentTable M-table
   F-start =

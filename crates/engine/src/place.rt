@@ -16,7 +16,7 @@ pub struct Placing {
 }
 
 // A refusal: its number and counts of zero.
-pub fn refused(number: u32) -> Placing
+pub(crate) fn refused(number: u32) -> Placing
     ensures { λ r. ⌜ r ≡ record { number = number; places = 0; tries = 0 } ⌝ }
 {
     Placing {

@@ -13,7 +13,7 @@ use placement::rule;
 use text::Shape;
 
 // The list of group x into a row of W places.
-pub fn place_into(map: &[u8], s: Shape, x: u32, row: &mut [u16]) -> u32
+pub(crate) fn place_into(map: &[u8], s: Shape, x: u32, row: &mut [u16]) -> u32
     requires { ⌜ (loadNumber (now map) ≡ 0) × (s ≡ shapeOf (framesIn (now map))) × (length (now row) ≡ widthOf (mapOf (now map))) ⌝ }
     ensures { λ r. ⌜ (now (row .exit) ≡ entriesOf (placedOf (mapOf (now (map .entry))) x .places)) × (r ≡ placedOf (mapOf (now (map .entry))) x .tries) ⌝ }
 {

@@ -6,7 +6,7 @@ use Prim.Native.Nat.{ℕ, zero, suc, _+_, _*_, _<_, _≤_}
 use native.Mathlib.Omega.{arith}
 use native.Mathlib.Numerals.{add-one}
 use native.Mathlib.Decide.{decLt}
-use lib.ListN.{length, take, set, length-append, length-set}
+use lib.ListN.{length, take, set, length-take, length-append, length-set}
 use lib.Seq.{take-all, take-append-le, take-suc-set, length-take-le}
 use borrow.Author.Tests.{eq-eqb, ne-eqb, leb-true}
 use Rattle.definitions.specs.declared.Change.{Change}
@@ -69,27 +69,17 @@ front-room xs ys n h = omega (arith, h, length-append xs ys)
 
 -- ---- a line grows
 
-length-take-most : (n : ℕ) (xs : List ℕ) → length (take n xs) ≤ length xs
-length-take-most zero xs = omega arith
-length-take-most (suc n) [] = omega arith
-length-take-most (suc n) (x ∷ xs) = omega (arith, length-take-most n xs)
-
-short-take : (n : ℕ) (xs : List ℕ) → length (take n xs) < n → length xs < n
-short-take zero xs h = absurd (omega arith)
-short-take (suc n) [] h = h
-short-take (suc n) (x ∷ xs) h = omega (arith, short-take n xs (omega arith))
-
 -- it keeps 15 bytes already
 pub keeps-full : (l : Line) (b : ℕ) → l .count ≡ 15 → (xs : List ℕ) → Keeps l xs → Keeps l (xs ++ (b ∷ []))
 keeps-full l b e xs k =
-    let h : take 15 (xs ++ (b ∷ [])) ≡ take 15 xs = take-append-le 15 xs (b ∷ []) (omega (arith, length-take-most 15 xs, k .count)) in
+    let h : take 15 (xs ++ (b ∷ [])) ≡ take 15 xs = take-append-le 15 xs (b ∷ []) (omega (arith, length-take 15 xs, k .count)) in
     record { kept = k .kept ∙ sym h; count = k .count ∙ ap length (sym h); long = k .long }
 
 -- it has room for one more
 pub keeps-more : (l : Line) (b : ℕ) → l .count < 15 → (xs : List ℕ) → Keeps l xs
     → Keeps (record { bytes = set (l .bytes) (l .count) b; count = l .count + 1 }) (xs ++ (b ∷ []))
 keeps-more l b h xs k =
-    let short : length xs < 15 = short-take 15 xs (omega (arith, k .count)) in
+    let short : length xs < 15 = omega (arith, length-take 15 xs, k .count) in
     let own : take 15 xs ≡ xs = take-all 15 xs (omega arith) in
     let all : take 15 (xs ++ (b ∷ [])) ≡ xs ++ (b ∷ []) = take-all 15 (xs ++ (b ∷ [])) (omega (arith, length-append xs (b ∷ []))) in
     record {
