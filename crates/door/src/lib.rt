@@ -1,8 +1,16 @@
 // Document 01, "Questions at the door": load.
 ghost use mathlib.Core.Path.{_≡_};
+ghost use mathlib.Core.Bool.{true};
 ghost use Prim.Native.Nat.{_-_};
 ghost use lib.ListN.{length};
-ghost use Rattle.definitions.specs.Load.{loadNumber};
+ghost use Rattle.definitions.specs.Lists.{firstNo};
+ghost use Rattle.definitions.specs.Frames.{framesIn};
+ghost use Rattle.definitions.specs.Map.{mapOf};
+ghost use Rattle.definitions.specs.Load.{ranged, mapQuestions, loadNumber};
+ghost use Rattle.text.specs.Shape.{shapeOf};
+ghost use Rattle.text.specs.RoundTrip.{Framed};
+ghost use Rattle.members.specs.Levels.{Levels};
+ghost use Rattle.door.specs.Questions.{behind};
 ghost use Rattle.door.specs.Types.{typesTo};
 use blocks::standing;
 use blocks::widths;
@@ -16,6 +24,7 @@ use members::present;
 use ranges::light;
 use ranges::ranged;
 use ranges::rising;
+use text::Shape;
 
 // The type of a bucket, from its level: one less where it is present, and 0 where it is not.
 fn type_at(level: u32) -> u32
@@ -42,6 +51,46 @@ fn types_of(table: &[u32]) -> [u32; 256]
     types
 }
 
+// The number of the first question behind 10 that is answered no, or 0: those on the rule.
+fn behind_10(t: &[u8], s: Shape, table: &[u32]) -> u32
+    requires { ⌜ Framed (now t) × (s ≡ shapeOf (framesIn (now t))) × (ranged (mapOf (now t)) ≡ true) ⌝ }
+    requires { ⌜ Levels (mapOf (now t)) (now table) ⌝ }
+    ensures { λ r. ⌜ r ≡ firstNo (behind 10 (mapQuestions (mapOf (now (t .entry))))) ⌝ }
+{
+    let types = types_of(table);
+    if !standing::in_blocks(t, s, &types) {
+        return 11;
+    }
+    if !widths::slim(t, s) {
+        return 12;
+    }
+    if !light::light(t, s) {
+        return 13;
+    }
+    0
+}
+
+// The same behind 6: first those on what is present and what is a child of what.
+fn behind_6(t: &[u8], s: Shape, table: &[u32]) -> u32
+    requires { ⌜ Framed (now t) × (s ≡ shapeOf (framesIn (now t))) × (ranged (mapOf (now t)) ≡ true) ⌝ }
+    requires { ⌜ Levels (mapOf (now t)) (now table) ⌝ }
+    ensures { λ r. ⌜ r ≡ firstNo (behind 6 (mapQuestions (mapOf (now (t .entry))))) ⌝ }
+{
+    if !present::present(t, s, table) {
+        return 7;
+    }
+    if !once::once(t, s) {
+        return 8;
+    }
+    if !falling::falling(t, s, table) {
+        return 9;
+    }
+    if !narrow::narrow(t, s) {
+        return 10;
+    }
+    behind_10(t, s, table)
+}
+
 // The number of the first question answered no, or 0.
 pub fn load(t: &[u8]) -> u32
     ensures { λ r. ⌜ r ≡ loadNumber (now (t .entry)) ⌝ }
@@ -66,27 +115,5 @@ pub fn load(t: &[u8]) -> u32
         return 6;
     }
     let table = levels::levels(t, s);
-    if !present::present(t, s, &table) {
-        return 7;
-    }
-    if !once::once(t, s) {
-        return 8;
-    }
-    if !falling::falling(t, s, &table) {
-        return 9;
-    }
-    if !narrow::narrow(t, s) {
-        return 10;
-    }
-    let types = types_of(&table);
-    if !standing::in_blocks(t, s, &types) {
-        return 11;
-    }
-    if !widths::slim(t, s) {
-        return 12;
-    }
-    if !light::light(t, s) {
-        return 13;
-    }
-    0
+    behind_6(t, s, &table)
 }

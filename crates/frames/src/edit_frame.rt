@@ -1,14 +1,17 @@
 // The edit frame: what it asks for, the device it names, and the change written into the text.
 ghost use mathlib.Core.Path.{_≡_};
-ghost use Prim.Native.Nat.{_<_};
+ghost use Prim.Native.Nat.{_+_, _<_, _≤_};
 ghost use lib.ListN.{length, getD};
+ghost use Rattle.definitions.specs.Frames.{hex};
 ghost use Rattle.definitions.specs.Map.{mapOf};
 ghost use Rattle.definitions.specs.Edit.{changeOf};
+ghost use Rattle.text.specs.Places.{splice};
 ghost use Rattle.text.specs.RoundTrip.{Framed};
 ghost use Rattle.text.specs.Records.{noDevice};
 ghost use Rattle.text.specs.Edit.{withDevice, accepting, weighing, Edited};
 ghost use Rattle.frames.specs.Found.{FoundIs};
 use crate::digits;
+use crate::lines;
 use crate::records;
 use definitions::Change;
 
@@ -56,24 +59,31 @@ pub fn find_device(t: &[u8], n: usize, d: u32) -> Found
     Found::Missing
 }
 
-// Makes v the acceptance of device k: its eight digits are written over, and all other bytes stay.
+// Writes the eight digits of v from a on; all other bytes stay.
+fn put_at(t: &mut [u8], a: usize, v: u32)
+    requires { ⌜ a + 8 ≤ length (now t) ⌝ }
+    ensures { λ _. ⌜ now (t .exit) ≡ splice a 8 (hex 8 v) (now (t .entry)) ⌝ }
+{
+    let e = a + 8;
+    digits::put_field(&mut t[a..e], v);
+}
+
+// Makes v the acceptance of device k.
 pub fn put_acceptance(t: &mut [u8], k: usize, v: u32)
     requires { ⌜ Framed (now t) × (k < length (mapOf (now t) .devices)) ⌝ }
     ensures { λ _. ⌜ Edited (now (t .exit))
         (withDevice k (accepting (getD (mapOf (now (t .entry)) .devices) k noDevice) v) (mapOf (now (t .entry)))) ⌝ }
 {
-    let a = 11 + k * 23 + 14;
-    let e = a + 8;
-    digits::put_field(&mut t[a..e], v);
+    let a = lines::GROUPS + k * lines::DEVICE + records::ACCEPTANCE_AT;
+    put_at(t, a, v);
 }
 
-// Makes v the weight of device k, in the same way.
+// Makes v the weight of device k.
 pub fn put_weight(t: &mut [u8], k: usize, v: u32)
     requires { ⌜ Framed (now t) × (k < length (mapOf (now t) .devices)) ⌝ }
     ensures { λ _. ⌜ Edited (now (t .exit))
         (withDevice k (weighing (getD (mapOf (now (t .entry)) .devices) k noDevice) v) (mapOf (now (t .entry)))) ⌝ }
 {
-    let a = 11 + k * 23 + 6;
-    let e = a + 8;
-    digits::put_field(&mut t[a..e], v);
+    let a = lines::GROUPS + k * lines::DEVICE + records::WEIGHT_AT;
+    put_at(t, a, v);
 }

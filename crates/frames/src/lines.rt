@@ -9,8 +9,20 @@ ghost use Rattle.definitions.specs.Frames.{linesOf};
 ghost use Rattle.definitions.specs.Load.{allowed, sized, lineFormed, formed};
 use crate::digits;
 
-// How many digits a line of each kind has, the kind's own two among them.
-pub const LENGTHS: [usize; 6] = [10, 22, 8, 14, 12, 6];
+// How many bytes a line of each kind has, the byte 10 that ends it among them.
+pub const GROUPS: usize = 11;
+
+pub const DEVICE: usize = 23;
+
+pub const BUCKET: usize = 9;
+
+pub const LINK: usize = 15;
+
+pub const STEP: usize = 13;
+
+pub const END: usize = 7;
+
+pub const LENGTHS: [usize; 6] = [GROUPS, DEVICE, BUCKET, LINK, STEP, END];
 
 pub fn is_allowed(b: u8) -> bool
     ensures { λ r. ⌜ r ≡ allowed b ⌝ }
@@ -65,13 +77,13 @@ pub fn line_end(t: &[u8], at: usize) -> usize
     e
 }
 
-// Is t from at to e a line of kind 00 to 05, at that length? Less than six digits are no line, so the kind's two are there to read.
+// Is t from at to e a line of kind 00 to 05, at that length? None is shorter than kind 05, so the kind's two digits are there to read.
 pub fn line_formed(t: &[u8], at: usize, e: usize) -> bool
     requires { ⌜ (at ≤ e) × (e ≤ length (now t)) ⌝ }
     ensures { λ r. ⌜ r ≡ lineFormed (take (e - at) (drop at (now (t .entry)))) ⌝ }
 {
-    let n = e - at;
-    if n < 6 {
+    let n = e - at + 1;
+    if n < END {
         return false;
     }
     let k = digits::field(t, at, 2) as usize;

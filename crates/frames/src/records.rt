@@ -9,11 +9,17 @@ ghost use Rattle.text.specs.Shape.{shapeOf};
 ghost use Rattle.text.specs.RoundTrip.{Framed};
 ghost use Rattle.text.specs.Records.{noDevice, noBucket, noLink, noStep};
 use crate::digits;
+use crate::lines;
 use definitions::Bucket;
 use definitions::Device;
 use definitions::Link;
 use definitions::Step;
 use text::Shape;
+
+// Where a device's weight and its acceptance stand in its line.
+pub const WEIGHT_AT: usize = 6;
+
+pub const ACCEPTANCE_AT: usize = 14;
 
 // The count of groups.
 pub fn groups(t: &[u8]) -> u32
@@ -28,11 +34,11 @@ pub fn device(t: &[u8], k: usize) -> Device
     requires { ⌜ Framed (now t) × (k < length (mapOf (now t) .devices)) ⌝ }
     ensures { λ r. ⌜ r ≡ getD (mapOf (now (t .entry)) .devices) k noDevice ⌝ }
 {
-    let at = 11 + k * 23;
+    let at = lines::GROUPS + k * lines::DEVICE;
     Device {
         number: digits::field(t, at + 2, 4),
-        weight: digits::field(t, at + 6, 8),
-        acceptance: digits::field(t, at + 14, 8),
+        weight: digits::field(t, at + WEIGHT_AT, 8),
+        acceptance: digits::field(t, at + ACCEPTANCE_AT, 8),
     }
 }
 
@@ -41,7 +47,7 @@ pub fn bucket(t: &[u8], s: Shape, k: usize) -> Bucket
     requires { ⌜ Framed (now t) × (s ≡ shapeOf (framesIn (now t))) × (k < length (mapOf (now t) .buckets)) ⌝ }
     ensures { λ r. ⌜ r ≡ getD (mapOf (now (t .entry)) .buckets) k noBucket ⌝ }
 {
-    let at = 11 + s.devices * 23 + k * 9;
+    let at = lines::GROUPS + s.devices * lines::DEVICE + k * lines::BUCKET;
     Bucket {
         number: digits::field(t, at + 2, 4),
         ty: digits::field(t, at + 6, 2),
@@ -53,7 +59,10 @@ pub fn link(t: &[u8], s: Shape, k: usize) -> Link
     requires { ⌜ Framed (now t) × (s ≡ shapeOf (framesIn (now t))) × (k < length (mapOf (now t) .links)) ⌝ }
     ensures { λ r. ⌜ r ≡ getD (mapOf (now (t .entry)) .links) k noLink ⌝ }
 {
-    let at = 11 + s.devices * 23 + s.buckets * 9 + k * 15;
+    let at = lines::GROUPS
+        + s.devices * lines::DEVICE
+        + s.buckets * lines::BUCKET
+        + k * lines::LINK;
     Link {
         bucket: digits::field(t, at + 2, 4),
         child: digits::field(t, at + 6, 8),
@@ -65,7 +74,11 @@ pub fn step(t: &[u8], s: Shape, k: usize) -> Step
     requires { ⌜ Framed (now t) × (s ≡ shapeOf (framesIn (now t))) × (k < length (mapOf (now t) .steps)) ⌝ }
     ensures { λ r. ⌜ r ≡ getD (mapOf (now (t .entry)) .steps) k noStep ⌝ }
 {
-    let at = 11 + s.devices * 23 + s.buckets * 9 + s.links * 15 + k * 13;
+    let at = lines::GROUPS
+        + s.devices * lines::DEVICE
+        + s.buckets * lines::BUCKET
+        + s.links * lines::LINK
+        + k * lines::STEP;
     Step {
         step: digits::field(t, at + 2, 2),
         count: digits::field(t, at + 4, 2),

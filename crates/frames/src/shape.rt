@@ -28,7 +28,7 @@ pub fn line_at(t: &[u8], at: usize) -> Line
         × (every lineFormed (linesOf (drop (r .next) (now (t .entry)))) ≡ true) ⌝ }
 {
     let kind = digits::field(t, at, 2) as usize;
-    let next = at + lines::LENGTHS[kind] + 1;
+    let next = at + lines::LENGTHS[kind];
     Line { kind, next }
 }
 

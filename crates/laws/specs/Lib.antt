@@ -6,6 +6,7 @@ pub mod Hash
 pub mod Logarithm
 pub mod Draw
 pub mod Sparing
+pub mod Questions
 pub mod Loadable
 pub mod Fuel
 pub mod Walk

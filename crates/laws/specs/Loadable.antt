@@ -2,7 +2,7 @@
 use mathlib.Core.Path.{_≡_, refl, sym, ap, _∙_}
 use mathlib.Core.Bool.{Bool, true, false, cond, _&&_, _||_}
 use mathlib.Core.Logic.{_⊎_, inl, inr}
-use mathlib.Core.List.{List, _∷_, map}
+use mathlib.Core.List.{List, map}
 use Prim.Native.Nat.{ℕ, zero, suc, _%_, _<_, _≤_}
 use native.Mathlib.Omega.{arith}
 use lib.Dec.{leb, ltb, eqb}
@@ -25,6 +25,7 @@ use Rattle.definitions.specs.Load.{within, deviceRanged, bucketRanged, linkRang
 use Rattle.definitions.specs.Edit.{withAcceptance, withWeight, put}
 use Rattle.definitions.specs.Calls.{fits}
 use Rattle.laws.specs.Lists.{both, every-map, every-mono}
+use Rattle.laws.specs.Questions.{answerTo, answered}
 use Rattle.laws.specs.Counting.{distinct-most, distinct-map, rising-bound, sum-bound, every-ext, some-map, linked-map, map-keeps, lookup-keeps, lookup-puts}
 
 -- ---- questions 5 to 13
@@ -41,25 +42,12 @@ pub record Loadable (m : Map) : Type 0 where
   pub slim : slim m ≡ true
   pub light : light m ≡ true
 
-first-yes : (n : ℕ) (b : Bool) (qs : List (ℕ × Bool)) → firstNo ((suc n, b) ∷ qs) ≡ 0 → (b ≡ true) × (firstNo qs ≡ 0)
-unfolding firstNo
-first-yes n true qs e = (refl, e)
-first-yes n false qs e = absurd (omega (arith, e))
-
 -- load's answer gives each question's
 pub loadable-is : (m : Map) → loadable m ≡ true → Loadable m
-unfolding loadable mapQuestions
+unfolding loadable mapQuestions every answerTo
 loadable-is m e =
-    let a = first-yes 4 (ranged m) _ (eqb-true _ _ e) in
-    let b = first-yes 5 (rising m) _ (a .1) in
-    let c = first-yes 6 (present m) _ (b .1) in
-    let d = first-yes 7 (once m) _ (c .1) in
-    let f = first-yes 8 (falling m) _ (d .1) in
-    let g = first-yes 9 (narrow m) _ (f .1) in
-    let h = first-yes 10 (inBlocks m) _ (g .1) in
-    let i = first-yes 11 (slim m) _ (h .1) in
-    let j = first-yes 12 (light m) _ (i .1) in
-    record { ranged = a .0; rising = b .0; present = c .0; once = d .0; falling = f .0; narrow = g .0; inBlocks = h .0; slim = i .0; light = j .0 }
+    let y = answered (mapQuestions m) refl (eqb-true _ _ e) in
+    record { ranged = y 5; rising = y 6; present = y 7; once = y 8; falling = y 9; narrow = y 10; inBlocks = y 11; slim = y 12; light = y 13 }
 
 -- and these give load's
 pub is-loadable : (m : Map) → Loadable m → loadable m ≡ true

@@ -116,8 +116,8 @@ module _ {A : Type 0} (f : A → ℕ) (xs : List A) where
       pub summed-most : v + f x ≤ sum (map f xs)
       summed-most = omega (arith, summed-more)
 
--- the text has 23 bytes for each device
-devices-room : (t : List ℕ) → Framed t → (n : ℕ) → n ≡ length (mapOf t .devices) → n * 23 ≤ length t
+-- the text has a line for each device
+devices-room : (t : List ℕ) → Framed t → (n : ℕ) → n ≡ length (mapOf t .devices) → n ≤ length t
 devices-room t h zero e = omega arith
 devices-room t h (suc n) e = omega (arith, device-at t h n (omega (arith, e)) .room)
 

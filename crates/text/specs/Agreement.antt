@@ -4,11 +4,11 @@ use mathlib.Core.Path.{_≡_, refl, sym, ap, _∙_}
 use mathlib.Core.Bool.{Bool, true, false, _&&_, _||_}
 use mathlib.Core.List.{List, [], _∷_, _++_, map}
 use mathlib.Core.Logic.{_⊎_, inl, inr, ⊎-elim}
-use Prim.Native.Nat.{ℕ, zero, suc, _+_, _*_, _^_, _<_, _≤_}
+use Prim.Native.Nat.{ℕ, _+_, _*_, _^_, _<_, _≤_}
 use native.Mathlib.Omega.{arith}
 use lib.Dec.{eqb, leb, lit<}
 use lib.ListN.{length, length-append, length-map}
-use borrow.Author.Tests.{lt-ltb, eqb-true, leb-true}
+use borrow.Author.Tests.{lt-ltb, eq-eqb, eqb-true, leb-true}
 use Rattle.definitions.specs.declared.Device.{Device}
 use Rattle.definitions.specs.declared.Bucket.{Bucket}
 use Rattle.definitions.specs.declared.Link.{Link}
@@ -16,15 +16,15 @@ use Rattle.definitions.specs.declared.Step.{Step}
 use Rattle.definitions.specs.Lists.{every, sum}
 use Rattle.definitions.specs.Frames.{Frame, layouts, layout, lineOf, bytesOf, textOf, lineLength}
 use Rattle.definitions.specs.Map.{Map, mapOf}
-use Rattle.definitions.specs.Writing.{frame, deviceFrame, bucketFrame, linkFrame, stepFrame, sizeOf, laterFrames, framesOf, mapText}
+use Rattle.definitions.specs.Writing.{frame, deviceFrame, bucketFrame, linkFrame, stepFrame, sizeOf, framesOf, mapText}
 use Rattle.definitions.specs.Load.{within, deviceRanged, bucketRanged, linkRanged, takeRanged, selectRanged, emitRanged, stepRanged, loadNumber, loadable}
-use Rattle.laws.specs.Lists.{both, and-both, every-append, every-map, every-mono, every-parts}
-use Rattle.laws.specs.Loadable.{Loadable, loadable-is, is-loadable, Ranged, ranged-is, DeviceRanged, device-ranged, BucketRanged, bucket-ranged, ChildRanged, LinkRanged, link-ranged, Bounds, bounds}
+use Rattle.laws.specs.Lists.{both, and-both, every-append, every-map, every-mono}
+use Rattle.laws.specs.Loadable.{Loadable, loadable-is, is-loadable, ranged-is, device-ranged, bucket-ranged, link-ranged, bounds}
 use Rattle.text.specs.Frames.{fits, goodFrame, frame-is-good, length-line}
-use Rattle.text.specs.Places.{ofKind, text-append, length-text}
+use Rattle.text.specs.Places.{text-append, length-text}
 use Rattle.text.specs.Map.{uniform}
-use Rattle.text.specs.RoundTrip.{Fits, Framed, text-of-map, map-of-text, framed}
-use Rattle.text.specs.Loading.{Loaded, loaded, is-loaded}
+use Rattle.text.specs.RoundTrip.{Fits, text-of-map, map-of-text, framed}
+use Rattle.text.specs.Loading.{behind-text, loaded}
 
 -- ---- fields in range have room in their frames
 
@@ -177,40 +177,17 @@ module _ (m : Map) (L : Loadable m) where
   written-map = map-of-text m loadable-fits
 
   pub written-loads : loadNumber (mapText m) ≡ 0
+  unfolding loadable
   written-loads =
-      let e = written-map in
-      is-loaded (mapText m)
-      (record {
-        framed = framed m loadable-fits loadable-length;
-        ranged = rw e (L .ranged);
-        rising = rw e (L .rising);
-        present = rw e (L .present);
-        once = rw e (L .once);
-        falling = rw e (L .falling);
-        narrow = rw e (L .narrow);
-        inBlocks = rw e (L .inBlocks);
-        slim = rw e (L .slim);
-        light = rw e (L .light);
-      })
+      behind-text (mapText m) (framed m loadable-fits loadable-length) ∙ rw written-map (eqb-true _ _ (is-loadable m L))
 
 -- LOAD THEN WRITE: bytes that load takes are the text of the map read from them, which is loadable
 pub loaded-text : (t : List ℕ) → loadNumber t ≡ 0 → mapText (mapOf t) ≡ t
 loaded-text t e = text-of-map t (loaded t e .framed)
 
 pub loaded-map : (t : List ℕ) → loadNumber t ≡ 0 → Loadable (mapOf t)
-loaded-map t e =
-    let l = loaded t e in
-    record {
-      ranged = l .ranged;
-      rising = l .rising;
-      present = l .present;
-      once = l .once;
-      falling = l .falling;
-      narrow = l .narrow;
-      inBlocks = l .inBlocks;
-      slim = l .slim;
-      light = l .light;
-    }
+unfolding loadable
+loaded-map t e = loadable-is (mapOf t) (eq-eqb _ 0 (sym (behind-text t (loaded t e .framed)) ∙ e))
 
 -- on the record and on the bytes
 pub loads-agree : (m : Map) → (loadable m ≡ true → loadNumber (mapText m) ≡ 0) × ((t : List ℕ) → loadNumber t ≡ 0 → mapOf t ≡ m → loadable m ≡ true)

@@ -3,7 +3,7 @@
 use mathlib.Core.Path.{_≡_, refl, sym, ap, _∙_, subst}
 use mathlib.Core.Bool.{Bool, true, cond, _&&_}
 use mathlib.Core.List.{List, [], _∷_, _++_, map, append-assoc, map-append}
-use Prim.Native.Nat.{ℕ, zero, suc, _+_, _*_, _^_, _<_, _≤_}
+use Prim.Native.Nat.{ℕ, zero, suc, _+_, _^_, _<_, _≤_}
 use native.Mathlib.Omega.{arith}
 use lib.Dec.{ltb, eqb, lit<}
 use lib.ListN.{length, getD, take, drop, set, length-append, length-map, length-set}
@@ -21,10 +21,11 @@ use Rattle.definitions.specs.Writing.{frame, deviceFrame, laterFrames, framesOf
 use Rattle.definitions.specs.Load.{linkBelow, rising}
 use Rattle.laws.specs.Lists.{both, and-both, every-head, every-tail, every-append, linked-head, linked-tail, linked-rest, every-parts}
 use Rattle.text.specs.Lines.{plain}
-use Rattle.text.specs.Frames.{goodFrame, length-line}
+use Rattle.text.specs.Frames.{goodFrame, length-line, lineBytes}
 use Rattle.text.specs.Places.{splice, with, offset, digitsOf, text-append, write-at, length-text, with-good}
 use Rattle.text.specs.Map.{uniform}
 use Rattle.text.specs.RoundTrip.{Fits, Framed, text-of-map, map-fits, map-of-text, framed}
+use Rattle.text.specs.Rows.{deviceStart, weightAt, acceptanceAt}
 use Rattle.text.specs.Records.{noDevice}
 
 -- device k replaced by d
@@ -81,8 +82,8 @@ module _ (m : Map) (k : ℕ) (g : Fits m ≡ true) (h : k < length (m .devices))
   parts : (every goodFrame (before m k) ≡ true) × (goodFrame (deviceFrame (getD (m .devices) k noDevice)) ≡ true) × (every goodFrame (after m k) ≡ true)
   parts = parts-good (before m k) (after m k) (deviceFrame (getD (m .devices) k noDevice)) (rw (at-device m k h) at g)
 
-  -- device k's line starts at 11 + 23 k
-  start : length (textOf (before m k)) ≡ 11 + k * 23
+  -- where device k's line starts
+  start : length (textOf (before m k)) ≡ deviceStart k
   unfolding before bytesOf layouts sum
   start =
       let ds = map deviceFrame (take k (m .devices)) in
@@ -94,21 +95,21 @@ module _ (m : Map) (k : ℕ) (g : Fits m ≡ true) (h : k < length (m .devices))
 
   -- field i of device k replaced in the text: the device is then d
   with-text : (i v : ℕ) (d : Device) → i < 3 → with (deviceFrame (getD (m .devices) k noDevice)) i v ≡ deviceFrame d
-      → splice (11 + k * 23 + offset 1 i) (digitsOf 1 i) (hex (digitsOf 1 i) v) (mapText m) ≡ mapText (withDevice k d m)
+      → splice (deviceStart k + offset 1 i) (digitsOf 1 i) (hex (digitsOf 1 i) v) (mapText m) ≡ mapText (withDevice k d m)
   unfolding layouts
   with-text i v d l e =
       rw (at-device m k h, at-with m k d h, ← e)
-      (write-at (before m k) (after m k) (deviceFrame (getD (m .devices) k noDevice)) i (11 + k * 23) v (parts .1) l start)
+      (write-at (before m k) (after m k) (deviceFrame (getD (m .devices) k noDevice)) i (deviceStart k) v (parts .1) l start)
 
   with-fits : (i v : ℕ) (d : Device) → v < 16 ^ digitsOf 1 i → with (deviceFrame (getD (m .devices) k noDevice)) i v ≡ deviceFrame d → Fits (withDevice k d m) ≡ true
   with-fits i v d l e =
       rw (at-with m k d h, ← e)
       (good-parts (before m k) (after m k) _ (parts .0) (with-good (deviceFrame (getD (m .devices) k noDevice)) i v (parts .1) l) (parts .2))
 
-  length-at : (f : Frame) → goodFrame f ≡ true → f .kind ≡ 1 → length (textOf (before m k ++ (f ∷ after m k))) ≡ 11 + k * 23 + (23 + length (textOf (after m k)))
+  length-at : (f : Frame) → goodFrame f ≡ true → f .kind ≡ 1 → length (textOf (before m k ++ (f ∷ after m k))) ≡ deviceStart k + (lineBytes 1 + length (textOf (after m k)))
   unfolding bytesOf layouts sum
   length-at f p q =
-      let a : length (lineOf f) ≡ 22 = length-line f p ∙ ap (λ (i : ℕ). lineLength i) q in
+      let a : length (lineOf f) ≡ lineLength 1 = length-line f p ∙ ap (λ (i : ℕ). lineLength i) q in
       ap length (text-append (before m k) (f ∷ after m k)) ∙ length-append (textOf (before m k)) (textOf (f ∷ after m k))
       ∙ rw (start, length-append (lineOf f) (10 ∷ textOf (after m k))) (omega (arith, a))
 
@@ -129,12 +130,12 @@ pub record Edited (u : List ℕ) (m : Map) : Type 0 where
 module _ (t : List ℕ) (k : ℕ) (h : Framed t) (l : k < length (mapOf t .devices)) where
   -- the digits of field i of device k replaced
   pub edited : (i v : ℕ) (d : Device) → i < 3 → v < 16 ^ digitsOf 1 i → with (deviceFrame (getD (mapOf t .devices) k noDevice)) i v ≡ deviceFrame d
-      → Edited (splice (11 + k * 23 + offset 1 i) (digitsOf 1 i) (hex (digitsOf 1 i) v) t) (withDevice k d (mapOf t))
+      → Edited (splice (deviceStart k + offset 1 i) (digitsOf 1 i) (hex (digitsOf 1 i) v) t) (withDevice k d (mapOf t))
   edited i v d a s e =
       let m = mapOf t in
       let g = with-fits m k (map-fits t h) l i v d s e in
-      let b : splice (11 + k * 23 + offset 1 i) (digitsOf 1 i) (hex (digitsOf 1 i) v) t ≡ mapText (withDevice k d m) =
-      subst (λ (u : List ℕ). splice (11 + k * 23 + offset 1 i) (digitsOf 1 i) (hex (digitsOf 1 i) v) u ≡ mapText (withDevice k d m)) (text-of-map t h)
+      let b : splice (deviceStart k + offset 1 i) (digitsOf 1 i) (hex (digitsOf 1 i) v) t ≡ mapText (withDevice k d m) =
+      subst (λ (u : List ℕ). splice (deviceStart k + offset 1 i) (digitsOf 1 i) (hex (digitsOf 1 i) v) u ≡ mapText (withDevice k d m)) (text-of-map t h)
       (with-text m k (map-fits t h) l i v d a e) in
       rw b
       (record {
@@ -145,13 +146,13 @@ module _ (t : List ℕ) (k : ℕ) (h : Framed t) (l : k < length (mapOf t .devic
 
   -- field 2, the acceptance
   pub edited-acceptance : (v : ℕ) → v < 16 ^ 8
-      → Edited (splice (11 + k * 23 + 14) 8 (hex 8 v) t) (withDevice k (accepting (getD (mapOf t .devices) k noDevice) v) (mapOf t))
+      → Edited (splice (deviceStart k + acceptanceAt) 8 (hex 8 v) t) (withDevice k (accepting (getD (mapOf t .devices) k noDevice) v) (mapOf t))
   unfolding with layouts sum
   edited-acceptance v s = edited 2 v (accepting (getD (mapOf t .devices) k noDevice) v) (lit< tt) s refl
 
   -- field 1, the weight
   pub edited-weight : (v : ℕ) → v < 16 ^ 8
-      → Edited (splice (11 + k * 23 + 6) 8 (hex 8 v) t) (withDevice k (weighing (getD (mapOf t .devices) k noDevice) v) (mapOf t))
+      → Edited (splice (deviceStart k + weightAt) 8 (hex 8 v) t) (withDevice k (weighing (getD (mapOf t .devices) k noDevice) v) (mapOf t))
   unfolding with layouts sum
   edited-weight v s = edited 1 v (weighing (getD (mapOf t .devices) k noDevice) v) (lit< tt) s refl
 

@@ -14,7 +14,7 @@ use Rattle.definitions.specs.Writing.{frame}
 use Rattle.definitions.specs.Load.{sized, formed, sorted, ordered, counted}
 use Rattle.laws.specs.Lists.{every-head, every-parts}
 use Rattle.text.specs.Lines.{plain}
-use Rattle.text.specs.Frames.{goodFrame, length-line, text-frames, good-frames}
+use Rattle.text.specs.Frames.{goodFrame, length-line, text-frames, good-frames, lineBytes}
 use Rattle.text.specs.Shape.{shapeOf}
 use Rattle.text.specs.Sections.{in-sections}
 use Rattle.text.specs.Places.{text-append, read-at}
@@ -22,7 +22,7 @@ use Rattle.text.specs.Map.{single, Ordered, in-order, counts}
 
 -- a frame of kind 5 at the end of a text
 module _ (xs : List Frame) (v : ℕ) (g : goodFrame (frame 5 (v ∷ [])) ≡ true) where
-  length-end : length (textOf (xs ++ (frame 5 (v ∷ []) ∷ []))) ≡ length (textOf xs) + 7
+  length-end : length (textOf (xs ++ (frame 5 (v ∷ []) ∷ []))) ≡ length (textOf xs) + lineBytes 5
   unfolding bytesOf layouts sum
   length-end =
       ap length (text-append xs (frame 5 (v ∷ []) ∷ [])) ∙ length-append (textOf xs) (textOf (frame 5 (v ∷ []) ∷ []))
@@ -53,7 +53,7 @@ total s = s .groups + s .devices + s .buckets + s .links + s .steps
 
 -- what question 4 needs: room for the 05, a count that fits, and the answer
 pub record Ends (t : List ℕ) (s : Shape) : Type 0 where
-  pub long : 7 ≤ length t
+  pub long : lineBytes 5 ≤ length t
   pub few : total s ≤ 65536
   pub count : eqb (value 4 (drop (length t - 5) t)) (total s) ≡ counted (framesIn t)
 
@@ -65,13 +65,13 @@ same-test a b c d p q = go (eqb a b) refl
     go false e = sym (ne-eqb (c + 1) d (λ r. eqb-false a b e (omega arith)))
 
 at-the-end : (fs : List Frame) → every goodFrame fs ≡ true → Ordered fs
-    → (7 ≤ length (textOf fs)) × (value 4 (drop (length (textOf fs) - 5) (textOf fs)) ≡ firstField 5 fs)
+    → (lineBytes 5 ≤ length (textOf fs)) × (value 4 (drop (length (textOf fs) - 5) (textOf fs)) ≡ firstField 5 fs)
 at-the-end fs g o =
     let v = firstField 5 fs in
     let e = at-end fs g o in
     let h : goodFrame (frame 5 (v ∷ [])) ≡ true =
     every-head goodFrame _ [] (every-parts goodFrame (head fs) _ (subst (λ (l : List Frame). every goodFrame l ≡ true) e g) .1) in
-    subst (λ (l : List Frame). (7 ≤ length (textOf l)) × (value 4 (drop (length (textOf l) - 5) (textOf l)) ≡ v)) (sym e)
+    subst (λ (l : List Frame). (lineBytes 5 ≤ length (textOf l)) × (value 4 (drop (length (textOf l) - 5) (textOf l)) ≡ v)) (sym e)
     (omega (arith, length-end (head fs) v h), read-end (head fs) v h)
 
 -- it is so after questions 1 to 3
@@ -82,7 +82,7 @@ ends t s a b c e =
     let g = good-frames t b in
     let o = in-order fs c in
     let i : textOf fs ≡ t = text-frames t (λ _. plain t a .last) (plain t a .digits) b in
-    let r = subst (λ (u : List ℕ). (7 ≤ length u) × (value 4 (drop (length u - 5) u) ≡ firstField 5 fs)) i (at-the-end fs g o) in
+    let r = subst (λ (u : List ℕ). (lineBytes 5 ≤ length u) × (value 4 (drop (length u - 5) u) ≡ firstField 5 fs)) i (at-the-end fs g o) in
     let n : total (shapeOf fs) + 1 ≡ length fs = omega (arith, counts fs g o, o .one-first) in
     rw e (record { long = r .0; few = omega (arith, n, few fs, ap length i, plain t a .most); count = same-test _ _ _ _ (r .1) n })
 

@@ -5,7 +5,8 @@ use mathlib.Core.Bool.{Bool, true, false, _&&_}
 use mathlib.Core.List.{List, [], _∷_, _++_, map, append-assoc, append-nil, map-map}
 use Prim.Native.Nat.{ℕ, zero, suc, _+_, _-_, _^_, _<_, _≤_}
 use native.Mathlib.Omega.{arith}
-use lib.Dec.{leb, ltb, eqb, lit≤}
+use native.Mathlib.Numerals.{add-one}
+use lib.Dec.{leb, ltb, eqb, lit≤, eqb·suc-suc}
 use lib.ListN.{length, getD, take, drop, length-append, length-drop, drop-of-length-le, take-append-drop}
 use lib.Seq.{drop-drop, drop-at, length-take-le}
 use borrow.Author.Tests.{leb-true, ltb-true, eqb-true, lt-ltb, le-leb, lt-leb, eq-eqb}
@@ -195,9 +196,13 @@ pub good-frames : (t : List ℕ) → formed t ≡ true → every goodFrame (fram
 unfolding formed
 good-frames t g = rw (every-map goodFrame frameOf (linesOf t)) (every-mono lineFormed (λ (l : List ℕ). goodFrame (frameOf l)) (linesOf t) frame-good g)
 
--- how many digits a line of each kind has
+-- how many bytes a line of each kind has, the byte 10 that ends it among them
 abbrev pub lengths : List ℕ
-lengths = 10 ∷ 22 ∷ 8 ∷ 14 ∷ 12 ∷ 6 ∷ []
+lengths = 11 ∷ 23 ∷ 9 ∷ 15 ∷ 13 ∷ 7 ∷ []
+
+-- of one kind
+abbrev pub lineBytes : ℕ → ℕ
+lineBytes kind = getD lengths kind 0
 
 -- what holds of each kind
 pub kinds : (P : ℕ → Type 0) → P 0 → P 1 → P 2 → P 3 → P 4 → P 5 → (k : ℕ) → k < 6 → P k
@@ -209,17 +214,17 @@ kinds P a b c d e f (suc (suc (suc (suc zero)))) h = e
 kinds P a b c d e f (suc (suc (suc (suc (suc zero))))) h = f
 kinds P a b c d e f (suc (suc (suc (suc (suc (suc k)))))) h = absurd (omega arith)
 
--- the table is right
-pub length-table : (k : ℕ) → k < 6 → getD lengths k 0 ≡ lineLength k
+-- these are the definitions' digits and the byte 10
+pub length-table : (k : ℕ) → k < 6 → lineBytes k ≡ lineLength k + 1
 unfolding layouts sum
-length-table = kinds (λ k. getD lengths k 0 ≡ lineLength k) refl refl refl refl refl refl
+length-table = kinds (λ k. lineBytes k ≡ lineLength k + 1) refl refl refl refl refl refl
 
--- each line has six digits or more
-pub length-least : (k : ℕ) → k < 6 → 6 ≤ getD lengths k 0
-length-least = kinds (λ k. 6 ≤ getD lengths k 0) (lit≤ tt) (lit≤ tt) (lit≤ tt) (lit≤ tt) (lit≤ tt) (lit≤ tt)
+-- none is shorter than a line of kind 05
+pub length-least : (k : ℕ) → k < 6 → lineBytes 5 ≤ lineBytes k
+length-least = kinds (λ k. lineBytes 5 ≤ lineBytes k) (lit≤ tt) (lit≤ tt) (lit≤ tt) (lit≤ tt) (lit≤ tt) (lit≤ tt)
 
--- question 2 of a line by its length and kind: one of less than six digits is not formed
-pub bad-short : (l : List ℕ) → length l < 6 → lineFormed l ≡ false
+-- question 2 of a line by its length and kind: a shorter one is not formed
+pub bad-short : (l : List ℕ) → length l + 1 < lineBytes 5 → lineFormed l ≡ false
 bad-short l h = go (lineFormed l) refl
   where
     go : (b : Bool) → lineFormed l ≡ b → b ≡ false
@@ -232,9 +237,9 @@ unfolding lineFormed
 bad-kind l h = rw (lt-leb (kindOf l) 5 h)
 
 -- any other by its length
-pub by-length : (l : List ℕ) (n k : ℕ) → length l ≡ n → kindOf l ≡ k → k < 6 → eqb n (getD lengths k 0) ≡ lineFormed l
+pub by-length : (l : List ℕ) (n k : ℕ) → length l ≡ n → kindOf l ≡ k → k < 6 → eqb (n + 1) (lineBytes k) ≡ lineFormed l
 unfolding lineFormed
-by-length l n k p q h = rw (length-table k h, p, q, le-leb k 5 (omega arith))
+by-length l n k p q h = rw (length-table k h, p, q, le-leb k 5 (omega arith), add-one n, add-one (lineLength k), eqb·suc-suc)
 
 -- the kind of a part of a text
 pub part-kind : (t : List ℕ) (at n : ℕ) → 2 ≤ n → kindOf (take n (drop at t)) ≡ value 2 (drop at t)
@@ -249,9 +254,9 @@ pub record Known (t : List ℕ) (at k : ℕ) : Type 0 where
   pub kind : frameOf (first (drop at t)) .kind ≡ k
   pub small : k < 6
   pub two : at + 2 ≤ length t
-  pub room : at + getD lengths k 0 + 1 ≤ length t
-  pub frames : framesIn (drop at t) ≡ frameOf (first (drop at t)) ∷ framesIn (drop (at + getD lengths k 0 + 1) t)
-  pub rest : every lineFormed (linesOf (drop (at + getD lengths k 0 + 1) t)) ≡ true
+  pub room : at + lineBytes k ≤ length t
+  pub frames : framesIn (drop at t) ≡ frameOf (first (drop at t)) ∷ framesIn (drop (at + lineBytes k) t)
+  pub rest : every lineFormed (linesOf (drop (at + lineBytes k) t)) ≡ true
 
 -- it is known
 pub known : (t : List ℕ) (at : ℕ) → at < length t → lastOf t ≡ 10 → every lineFormed (linesOf (drop at t)) ≡ true → Known t at (value 2 (drop at t))
@@ -263,12 +268,12 @@ known t at h z g =
     let split : linesOf s ≡ l ∷ linesOf (drop (suc (length l)) s) = lines-split s n in
     let good : lineFormed l ≡ true = every-head lineFormed l (linesOf (drop (suc (length l)) s)) (rw split at g) in
     let six : kindOf l < 6 = line-kind l good in
-    let long : length l ≡ getD lengths (kindOf l) 0 = line-length l good ∙ sym (length-table (kindOf l) six) in
+    let long : length l + 1 ≡ lineBytes (kindOf l) = ap (λ (n : ℕ). n + 1) (line-length l good) ∙ sym (length-table (kindOf l) six) in
     let same : kindOf l ≡ value 2 s = ap (value 2) (first-take s) ∙ value-take 2 (length l) s (omega (arith, long, length-least (kindOf l) six)) in
     let lt : length l < length s = first-lt s (ended-drop at t (λ _. z)) n in
-    let long2 : length l ≡ getD lengths (value 2 s) 0 = long ∙ ap (λ (k : ℕ). getD lengths k 0) same in
-    let k : at + suc (length l) ≡ at + getD lengths (value 2 s) 0 + 1 = omega (arith, long2) in
-    let next : drop (suc (length l)) s ≡ drop (at + getD lengths (value 2 s) 0 + 1) t = drop-drop (suc (length l)) at t ∙ ap (λ (k : ℕ). drop k t) k in
+    let long2 : length l + 1 ≡ lineBytes (value 2 s) = long ∙ ap (λ (k : ℕ). lineBytes k) same in
+    let k : at + suc (length l) ≡ at + lineBytes (value 2 s) = omega (arith, long2) in
+    let next : drop (suc (length l)) s ≡ drop (at + lineBytes (value 2 s)) t = drop-drop (suc (length l)) at t ∙ ap (λ (k : ℕ). drop k t) k in
     record {
       kind = same;
       small = rw (← same) six;

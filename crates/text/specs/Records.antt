@@ -13,11 +13,11 @@ use Rattle.text.specs.declared.Shape.{Shape}
 use Rattle.definitions.specs.Lists.{sum}
 use Rattle.definitions.specs.Frames.{value, Frame, layouts, layout, lineLength, framesIn, section, field, noFrame}
 use Rattle.definitions.specs.Map.{deviceIn, bucketIn, linkIn, stepIn, mapIn, mapOf}
-use Rattle.text.specs.Frames.{good-frames}
+use Rattle.text.specs.Frames.{good-frames, lineBytes}
 use Rattle.text.specs.Shape.{shapeOf}
 use Rattle.text.specs.Places.{offset, digitsOf}
 use Rattle.text.specs.Map.{Ordered, in-order}
-use Rattle.text.specs.Rows.{base, row, row-field, row-room, base-devices, base-buckets, base-links, base-steps}
+use Rattle.text.specs.Rows.{base, row, row-field, row-room, deviceStart, weightAt, acceptanceAt, bucketsStart, linksStart, stepsStart, base-devices, base-buckets, base-links, base-steps}
 use Rattle.text.specs.RoundTrip.{Framed, text-of-frames}
 
 -- no device
@@ -44,21 +44,21 @@ pub record FrameAt (t : List ℕ) (j p : ℕ) (f : Frame) : Type 0 where
 -- the line of device d starts at p
 pub record DeviceAt (t : List ℕ) (p : ℕ) (d : Device) : Type 0 where
   pub number : value 4 (drop (p + 2) t) ≡ d .number
-  pub weight : value 8 (drop (p + 6) t) ≡ d .weight
-  pub acceptance : value 8 (drop (p + 14) t) ≡ d .acceptance
-  pub room : p + 23 ≤ length t
+  pub weight : value 8 (drop (p + weightAt) t) ≡ d .weight
+  pub acceptance : value 8 (drop (p + acceptanceAt) t) ≡ d .acceptance
+  pub room : p + lineBytes 1 ≤ length t
 
 -- the line of bucket b starts at p
 pub record BucketAt (t : List ℕ) (p : ℕ) (b : Bucket) : Type 0 where
   pub number : value 4 (drop (p + 2) t) ≡ b .number
   pub ty : value 2 (drop (p + 6) t) ≡ b .ty
-  pub room : p + 9 ≤ length t
+  pub room : p + lineBytes 2 ≤ length t
 
 -- the line of link l starts at p
 pub record LinkAt (t : List ℕ) (p : ℕ) (l : Link) : Type 0 where
   pub bucket : value 4 (drop (p + 2) t) ≡ l .bucket
   pub child : value 8 (drop (p + 6) t) ≡ l .child
-  pub room : p + 15 ≤ length t
+  pub room : p + lineBytes 3 ≤ length t
 
 -- the line of step s starts at p
 pub record StepAt (t : List ℕ) (p : ℕ) (s : Step) : Type 0 where
@@ -66,7 +66,7 @@ pub record StepAt (t : List ℕ) (p : ℕ) (s : Step) : Type 0 where
   pub count : value 2 (drop (p + 4) t) ≡ s .count
   pub ty : value 2 (drop (p + 6) t) ≡ s .ty
   pub bucket : value 4 (drop (p + 8) t) ≡ s .bucket
-  pub room : p + 13 ≤ length t
+  pub room : p + lineBytes 4 ≤ length t
 
 module _ (t : List ℕ) (h : Framed t) where
   -- its frames are in order
@@ -91,45 +91,42 @@ module _ (t : List ℕ) (h : Framed t) where
       rw (List·getD-map g s k noFrame) (q (getD s k noFrame) (frame-at j b k n e (omega (arith, l, length-map s g))))
 
   -- the count of groups
-  pub groups-at : (value 8 (drop 2 t) ≡ mapOf t .groups) × (11 ≤ length t)
+  pub groups-at : (value 8 (drop 2 t) ≡ mapOf t .groups) × (lineBytes 0 ≤ length t)
   unfolding mapIn layouts sum base
   groups-at =
       let r = frame-at 0 0 0 (lit< tt) refl (omega (arith, in-order-of .one-first)) in
       (r .read 0 (lit< tt), r .room)
 
   -- device k
-  pub device-at : (k : ℕ) → k < length (mapOf t .devices) → DeviceAt t (11 + k * 23) (getD (mapOf t .devices) k noDevice)
+  pub device-at : (k : ℕ) → k < length (mapOf t .devices) → DeviceAt t (deviceStart k) (getD (mapOf t .devices) k noDevice)
   unfolding mapIn layouts sum
   device-at k l =
-      record-at 1 11 k deviceIn (DeviceAt t (11 + k * 23)) (lit< tt) (base-devices (framesIn t) in-order-of) l
+      record-at 1 (lineBytes 0) k deviceIn (DeviceAt t (deviceStart k)) (lit< tt) (base-devices (framesIn t) in-order-of) l
       (λ f r. record { number = r .read 0 (lit< tt); weight = r .read 1 (lit< tt); acceptance = r .read 2 (lit< tt); room = r .room })
 
   module _ (s : Shape) (e : s ≡ shapeOf (framesIn t)) where
     -- bucket k
     pub bucket-at : (k : ℕ) → k < length (mapOf t .buckets)
-        → BucketAt t (11 + s .devices * 23 + k * 9) (getD (mapOf t .buckets) k noBucket)
+        → BucketAt t (bucketsStart s + k * lineBytes 2) (getD (mapOf t .buckets) k noBucket)
     unfolding mapIn layouts sum
     bucket-at k l =
-        let b = 11 + s .devices * 23 in
-        record-at 2 b k bucketIn (BucketAt t (b + k * 9)) (lit< tt) (base-buckets (framesIn t) s e in-order-of) l
+        record-at 2 (bucketsStart s) k bucketIn (BucketAt t (bucketsStart s + k * lineBytes 2)) (lit< tt) (base-buckets (framesIn t) s e in-order-of) l
         (λ f r. record { number = r .read 0 (lit< tt); ty = r .read 1 (lit< tt); room = r .room })
 
     -- link k
     pub link-at : (k : ℕ) → k < length (mapOf t .links)
-        → LinkAt t (11 + s .devices * 23 + s .buckets * 9 + k * 15) (getD (mapOf t .links) k noLink)
+        → LinkAt t (linksStart s + k * lineBytes 3) (getD (mapOf t .links) k noLink)
     unfolding mapIn layouts sum
     link-at k l =
-        let b = 11 + s .devices * 23 + s .buckets * 9 in
-        record-at 3 b k linkIn (LinkAt t (b + k * 15)) (lit< tt) (base-links (framesIn t) s e in-order-of) l
+        record-at 3 (linksStart s) k linkIn (LinkAt t (linksStart s + k * lineBytes 3)) (lit< tt) (base-links (framesIn t) s e in-order-of) l
         (λ f r. record { bucket = r .read 0 (lit< tt); child = r .read 1 (lit< tt); room = r .room })
 
     -- step k
     pub step-at : (k : ℕ) → k < length (mapOf t .steps)
-        → StepAt t (11 + s .devices * 23 + s .buckets * 9 + s .links * 15 + k * 13) (getD (mapOf t .steps) k noStep)
+        → StepAt t (stepsStart s + k * lineBytes 4) (getD (mapOf t .steps) k noStep)
     unfolding mapIn layouts sum
     step-at k l =
-        let b = 11 + s .devices * 23 + s .buckets * 9 + s .links * 15 in
-        record-at 4 b k stepIn (StepAt t (b + k * 13)) (lit< tt) (base-steps (framesIn t) s e in-order-of) l
+        record-at 4 (stepsStart s) k stepIn (StepAt t (stepsStart s + k * lineBytes 4)) (lit< tt) (base-steps (framesIn t) s e in-order-of) l
         (λ f r. record { step = r .read 0 (lit< tt); count = r .read 1 (lit< tt); ty = r .read 2 (lit< tt); bucket = r .read 3 (lit< tt); room = r .room })
 
 -- the shape's counts are the lengths of the map's lists

@@ -13,7 +13,7 @@ use Rattle.definitions.specs.Lists.{every, sum}
 use Rattle.definitions.specs.Frames.{value, bytesOf, Frame, layouts, layout, lineLength, lineOf, textOf, section, field, noFrame}
 use Rattle.definitions.specs.Load.{sorted}
 use Rattle.laws.specs.Lists.{every-take, every-at, every-mono}
-use Rattle.text.specs.Frames.{goodFrame, good-kind, length-line}
+use Rattle.text.specs.Frames.{goodFrame, good-kind, length-line, lineBytes}
 use Rattle.text.specs.Shape.{shapeOf, is}
 use Rattle.text.specs.Sections.{sections, below, by-sections}
 use Rattle.text.specs.Places.{offset, digitsOf, text-append, read-at, ofKind, length-text}
@@ -100,24 +100,47 @@ module _ (fs : List Frame) (j k : ℕ) (r : Row fs j k) where
       ∙ length-append (textOf (r .before)) (textOf (f ∷ r .after)) in
       omega (arith, a, b, c, r .starts)
 
--- where the devices start
-pub base-devices : (fs : List Frame) → Ordered fs → base 1 fs ≡ 11
+-- where device k starts
+abbrev pub deviceStart : ℕ → ℕ
+deviceStart k = lineBytes 0 + k * lineBytes 1
+
+-- where its weight stands in its line
+abbrev pub weightAt : ℕ
+weightAt = 6
+
+-- and its acceptance
+abbrev pub acceptanceAt : ℕ
+acceptanceAt = 14
+
+-- where the buckets start, by a shape
+abbrev pub bucketsStart : Shape → ℕ
+bucketsStart s = deviceStart (s .devices)
+
+-- where the links start
+abbrev pub linksStart : Shape → ℕ
+linksStart s = bucketsStart s + s .buckets * lineBytes 2
+
+-- where the steps start
+abbrev pub stepsStart : Shape → ℕ
+stepsStart s = linksStart s + s .links * lineBytes 3
+
+-- these are the bases
+pub base-devices : (fs : List Frame) → Ordered fs → base 1 fs ≡ lineBytes 0
 unfolding base layouts sum
 base-devices fs o = omega (arith, o .one-first)
 
--- where the others start, by a shape
 module _ (fs : List Frame) (s : Shape) (e : s ≡ shapeOf fs) (o : Ordered fs) where
-  -- where the buckets start
-  pub base-buckets : base 2 fs ≡ 11 + s .devices * 23
+  -- of the buckets
+  pub base-buckets : base 2 fs ≡ bucketsStart s
   unfolding base layouts sum shapeOf
   base-buckets = rw e (omega (arith, o .one-first))
 
-  -- where the links start
-  pub base-links : base 3 fs ≡ 11 + s .devices * 23 + s .buckets * 9
+  -- of the links
+  pub base-links : base 3 fs ≡ linksStart s
   unfolding base layouts sum shapeOf
   base-links = rw e (omega (arith, o .one-first))
 
-  -- where the steps start
-  pub base-steps : base 4 fs ≡ 11 + s .devices * 23 + s .buckets * 9 + s .links * 15
+  -- of the steps
+  pub base-steps : base 4 fs ≡ stepsStart s
   unfolding base layouts sum shapeOf
   base-steps = rw e (omega (arith, o .one-first))

@@ -1,18 +1,18 @@
--- `frames::edit_frame::put_weight` meets its contract: the eight digits are those of device k's weight, and the text with them replaced is
--- that of the edited map. Assumes nothing.
-use mathlib.Core.Path.{sym, _∙_}
-use Prim.Native.Nat.{_+_, _*_, _≤_}
-use native.Mathlib.Nat.{add-sub-cancel-left}
+-- `frames::edit_frame::put_weight` meets its contract: the text with the digits of device k's weight replaced is that of the edited map.
+-- Assumes nothing.
+use Prim.Native.Nat.{_+_, _≤_}
 use native.Mathlib.Omega.{arith}
 use lib.ListN.{length}
 use borrow.Author.Needs.{needs}
+use Rattle.text.specs.Frames.{lineBytes}
+use Rattle.text.specs.Rows.{deviceStart}
 use Rattle.text.specs.Records.{device-at}
-use Rattle.text.specs.Edit.{edited-weight, put-splice}
+use Rattle.text.specs.Edit.{edited-weight}
 use Rattle.frames.proofs.edit_frame.put_weight.Statement.{statement}
 use Rattle.frames.proofs.edit_frame.put_weight.Tie as tie
 
 -- the line is within the text
-room : (s : tie.Start) → 11 + s .args .k * 23 + 23 ≤ length (s .args .t .now)
+room : (s : tie.Start) → deviceStart (s .args .k) + lineBytes 1 ≤ length (s .args .t .now)
 room s = device-at (s .args .t .now) (s .pre .0) (s .args .k) (s .pre .1) .room
 
 mul-a : tie.Need-mul-a
@@ -24,20 +24,8 @@ add-a c = omega (arith, room (c .before), c .before .good .0 .0)
 add-a-2 : tie.Need-add-a-2
 add-a-2 c = omega (arith, room (c .before), c .before .good .0 .0)
 
-add-e : tie.Need-add-e
-add-e c = omega (arith, room (c .before), c .before .good .0 .0)
-
-sub-put-field : tie.Need-sub-put-field
-sub-put-field c = search needs
-
-part-put-field-start : tie.Need-part-put-field-start
-part-put-field-start c = search needs
-
-part-put-field-end : tie.Need-part-put-field-end
-part-put-field-end c = omega (arith, room (c .before))
-
-put-field-requires : tie.Need-put-field-requires
-put-field-requires c κs = search needs
+put-at-requires : tie.Need-put-at-requires
+put-at-requires c κs = omega (arith, room (c .before .before))
 
 same-length : tie.Need-same-length
 same-length c = search needs
@@ -46,21 +34,8 @@ returns : tie.Need-returns
 returns c =
     let p = c .before .before in
     let s = p .before .before .before in
-    let a = 11 + s .args .k * 23 + 6 in
-    rw (put-splice a _ _ (s .args .v) (s .args .t .now) _ (add-sub-cancel-left a 8) (sym (p .before .put-field-arg .given .1) ∙ add-sub-cancel-left a 8) (p .put-field .ensures))
-    (edited-weight (s .args .t .now) (s .args .k) (s .pre .0) (s .pre .1) (s .args .v) (omega (arith, s .fits .v .fits)))
+    rw (p .put-at .ensures) (edited-weight (s .args .t .now) (s .args .k) (s .pre .0) (s .pre .1) (s .args .v) (omega (arith, s .fits .v .fits)))
 
 pub put-weight-spec : {M : Type 1} → statement M
 put-weight-spec =
-    tie.close
-    (tie.spec
-    mul-a
-    add-a
-    add-a-2
-    add-e
-    sub-put-field
-    part-put-field-start
-    part-put-field-end
-    put-field-requires
-    same-length
-    returns)
+    tie.close (tie.spec mul-a add-a add-a-2 put-at-requires same-length returns)

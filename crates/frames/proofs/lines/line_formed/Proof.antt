@@ -10,6 +10,9 @@ use Rattle.frames.proofs.lines.line_formed.Tie as tie
 sub-n : tie.Need-sub-n
 sub-n c = search needs
 
+add-n : tie.Need-add-n
+add-n c = search needs
+
 returns : tie.Need-returns
 returns c =
     let a = c .before .before .args in
@@ -41,4 +44,4 @@ returns-3 c =
 pub line-formed-spec : {M : Type 1} → statement M
 line-formed-spec =
     tie.close
-    (tie.spec sub-n returns field-requires cast-k returns-2 mul-result array-read-result returns-3)
+    (tie.spec sub-n add-n returns field-requires cast-k returns-2 mul-result array-read-result returns-3)

@@ -5,13 +5,15 @@ use native.Mathlib.Omega.{arith}
 use lib.ListN.{getD}
 use Rattle.definitions.specs.declared.Bucket.{Bucket}
 use Rattle.definitions.specs.Map.{mapOf}
+use Rattle.text.specs.Frames.{lineBytes}
+use Rattle.text.specs.Rows.{bucketsStart}
 use Rattle.text.specs.Records.{noBucket, BucketAt, bucket-at}
 use Rattle.frames.proofs.records.bucket.Statement.{statement}
 use Rattle.frames.proofs.records.bucket.Tie as tie
 
 -- where the line of bucket k stands
 here : (s : tie.Start)
-    → BucketAt (s .args .t .now) (11 + s .args .s .devices * 23 + s .args .k * 9) (getD (mapOf (s .args .t .now) .buckets) (s .args .k) noBucket)
+    → BucketAt (s .args .t .now) (bucketsStart (s .args .s) + s .args .k * lineBytes 2) (getD (mapOf (s .args .t .now) .buckets) (s .args .k) noBucket)
 here s = bucket-at (s .args .t .now) (s .pre .0) (s .args .s) (s .pre .1) (s .args .k) (s .pre .2)
 
 -- two fields are a bucket

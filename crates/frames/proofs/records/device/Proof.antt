@@ -1,17 +1,18 @@
 -- `frames::records::device` meets its contract: the three fields stand where they are read, and the line is within the text. Assumes nothing.
 use mathlib.Core.Path.{_≡_, _∙_}
-use Prim.Native.Nat.{ℕ, _+_, _*_}
+use Prim.Native.Nat.{ℕ}
 use native.Mathlib.Omega.{arith}
 use lib.ListN.{getD}
 use Rattle.definitions.specs.declared.Device.{Device}
 use Rattle.definitions.specs.Map.{mapOf}
+use Rattle.text.specs.Rows.{deviceStart}
 use Rattle.text.specs.Records.{noDevice, DeviceAt, device-at}
 use Rattle.frames.proofs.records.device.Statement.{statement}
 use Rattle.frames.proofs.records.device.Tie as tie
 
 -- where the line of device k stands
 here : (s : tie.Start)
-    → DeviceAt (s .args .t .now) (11 + s .args .k * 23) (getD (mapOf (s .args .t .now) .devices) (s .args .k) noDevice)
+    → DeviceAt (s .args .t .now) (deviceStart (s .args .k)) (getD (mapOf (s .args .t .now) .devices) (s .args .k) noDevice)
 here s = device-at (s .args .t .now) (s .pre .0) (s .args .k) (s .pre .1)
 
 -- three fields are a device

@@ -5,13 +5,15 @@ use native.Mathlib.Omega.{arith}
 use lib.ListN.{getD}
 use Rattle.definitions.specs.declared.Link.{Link}
 use Rattle.definitions.specs.Map.{mapOf}
+use Rattle.text.specs.Frames.{lineBytes}
+use Rattle.text.specs.Rows.{linksStart}
 use Rattle.text.specs.Records.{noLink, LinkAt, link-at}
 use Rattle.frames.proofs.records.link.Statement.{statement}
 use Rattle.frames.proofs.records.link.Tie as tie
 
 -- where the line of link k stands
 here : (s : tie.Start)
-    → LinkAt (s .args .t .now) (11 + s .args .s .devices * 23 + s .args .s .buckets * 9 + s .args .k * 15) (getD (mapOf (s .args .t .now) .links) (s .args .k) noLink)
+    → LinkAt (s .args .t .now) (linksStart (s .args .s) + s .args .k * lineBytes 3) (getD (mapOf (s .args .t .now) .links) (s .args .k) noLink)
 here s = link-at (s .args .t .now) (s .pre .0) (s .args .s) (s .pre .1) (s .args .k) (s .pre .2)
 
 -- two fields are a link

@@ -5,13 +5,15 @@ use native.Mathlib.Omega.{arith}
 use lib.ListN.{getD}
 use Rattle.definitions.specs.declared.Step.{Step}
 use Rattle.definitions.specs.Map.{mapOf}
+use Rattle.text.specs.Frames.{lineBytes}
+use Rattle.text.specs.Rows.{stepsStart}
 use Rattle.text.specs.Records.{noStep, StepAt, step-at}
 use Rattle.frames.proofs.records.step.Statement.{statement}
 use Rattle.frames.proofs.records.step.Tie as tie
 
 -- where the line of step k stands
 here : (s : tie.Start)
-    → StepAt (s .args .t .now) (11 + s .args .s .devices * 23 + s .args .s .buckets * 9 + s .args .s .links * 15 + s .args .k * 13) (getD (mapOf (s .args .t .now) .steps) (s .args .k) noStep)
+    → StepAt (s .args .t .now) (stepsStart (s .args .s) + s .args .k * lineBytes 4) (getD (mapOf (s .args .t .now) .steps) (s .args .k) noStep)
 here s = step-at (s .args .t .now) (s .pre .0) (s .args .s) (s .pre .1) (s .args .k) (s .pre .2)
 
 -- four fields are a step

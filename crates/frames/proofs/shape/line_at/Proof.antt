@@ -2,7 +2,7 @@
 use mathlib.Core.Path.{sym}
 use native.Mathlib.Omega.{arith}
 use borrow.Author.Needs.{needs}
-use Rattle.text.specs.Frames.{Known, known}
+use Rattle.text.specs.Frames.{length-least, Known, known}
 use Rattle.frames.proofs.shape.line_at.Statement.{statement}
 use Rattle.frames.proofs.shape.line_at.Tie as tie
 
@@ -27,13 +27,10 @@ array-read-next c = here c .small
 add-next : tie.Need-add-next
 add-next c = omega (arith, here c .room)
 
-add-next-2 : tie.Need-add-next-2
-add-next-2 c = omega (arith, here c .room)
-
 returns : tie.Need-returns
-returns c = let k = here c in (search needs, k .room, sym (k .kind), k .frames, k .rest)
+returns c = let k = here c in (omega (arith, length-least (c .field .result) (k .small)), k .room, sym (k .kind), k .frames, k .rest)
 
 pub line-at-spec : {M : Type 1} → statement M
 line-at-spec =
     tie.close
-    (tie.spec field-requires cast-kind mul-next array-read-next add-next add-next-2 returns)
+    (tie.spec field-requires cast-kind mul-next array-read-next add-next returns)
