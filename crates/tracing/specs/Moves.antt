@@ -25,7 +25,7 @@ use Rattle.laws.specs.Loadable.{Loadable, put-loadable, put-actions, put-groups
 use Rattle.tracing.specs.Runs.{placeAt}
 use Rattle.tracing.specs.Edited.{put-independent}
 use Rattle.tracing.specs.Traced.{Traced, traced}
-use Rattle.tracing.specs.Cause.{traced-cause}
+use Rattle.tracing.specs.Cause.{Caused, cause-is, traced-cause}
 use Rattle.tracing.specs.Listed.{Emitted, placed-from, placed-place, emitted-same, entryAt, entry-placed}
 
 -- ---- which moves there are
@@ -103,13 +103,11 @@ runs-at m (suc n) g h =
     (λ (l : g < n). List·getD-append (runsTo m n) (placedOf m n ∷ []) nothingPlaced g (omega (arith, runs-count m n)) ∙ runs-at m n g l)
     (eq-or-lt-of-le (omega arith))
 
+-- place j, from 0, of the list of group g
+abbrev pub listedAt : Map → ℕ → ℕ → Place
+listedAt m g j = getD (placedOf m g .places) j nowhere
+
 module _ (m m′ : Map) (same : m′ .groups ≡ m .groups) where
-  abbrev oldPlace : ℕ → ℕ → Place
-  oldPlace g j = getD (placedOf m g .places) j nowhere
-
-  abbrev newPlace : ℕ → ℕ → Place
-  newPlace g j = getD (placedOf m′ g .places) j nowhere
-
   row-is : (g : ℕ) → g < m .groups → rowsAt (widthOf m) (runsOf m) (runsOf m′) g ≡ rowMovesTo g (placedOf m g .places) (placedOf m′ g .places) (widthOf m)
   unfolding runsOf rowMoves
   row-is g h = rw (runs-at m (m .groups) g h, runs-at m′ (m′ .groups) g (omega arith))
@@ -120,18 +118,18 @@ module _ (m m′ : Map) (same : m′ .groups ≡ m .groups) where
 
   -- a move is that of a place whose entries differ
   move-of : (v : Move) → List·Memᴰ v (movesOf m m′)
-      → (g : ℕ) × (j : ℕ) × (g < m .groups) × (j < widthOf m) × (v ≡ moveOf g (suc j) (oldPlace g j) (newPlace g j)) × (oldPlace g j .entry ≡ newPlace g j .entry → ⊥)
+      → (g : ℕ) × (j : ℕ) × (g < m .groups) × (j < widthOf m) × (v ≡ moveOf g (suc j) (listedAt m g j) (listedAt m′ g j)) × (listedAt m g j .entry ≡ listedAt m′ g j .entry → ⊥)
   move-of v i =
       let (g, h, r) = moves-row (widthOf m) (runsOf m) (runsOf m′) (m .groups) v (rw moves-is at i) in
       let (j, l, e, f) = row-move g (placedOf m g .places) (placedOf m′ g .places) (widthOf m) v (rw (row-is g h) at r) in
       (g, j, h, l, e, f)
 
   -- and every such place has its move
-  of-move : (g j : ℕ) → g < m .groups → j < widthOf m → (oldPlace g j .entry ≡ newPlace g j .entry → ⊥)
-      → List·Memᴰ (moveOf g (suc j) (oldPlace g j) (newPlace g j)) (movesOf m m′)
+  of-move : (g j : ℕ) → g < m .groups → j < widthOf m → (listedAt m g j .entry ≡ listedAt m′ g j .entry → ⊥)
+      → List·Memᴰ (moveOf g (suc j) (listedAt m g j) (listedAt m′ g j)) (movesOf m m′)
   of-move g j h l f =
       rw moves-is
-      (row-moves (widthOf m) (runsOf m) (runsOf m′) (m .groups) g (moveOf g (suc j) (oldPlace g j) (newPlace g j)) h
+      (row-moves (widthOf m) (runsOf m) (runsOf m′) (m .groups) g (moveOf g (suc j) (listedAt m g j) (listedAt m′ g j)) h
       (rw (row-is g h) (move-row g (placedOf m g .places) (placedOf m′ g .places) (widthOf m) j l f)))
 
 -- ---- their order
@@ -223,6 +221,9 @@ pub record Moved (m : Map) (c : Change) (v : Move) : Type 0 where
   pub old-there : v .old ≡ placeAt m (v .group) step at .entry
   pub new-there : v .new ≡ placeAt (put m c) (v .group) step at .entry
   pub cause : Traced m c (v .group) step at (v .cause)
+  -- "The cause stands where the old and new walk first part, by these ends": the place's own walks are the same up to one draw or one test,
+  -- whose ends differ, and these ends give the cause
+  pub parts : Caused (listedAt m (v .group) index .walk) (listedAt (put m c) (v .group) index .walk) (v .cause)
 
 -- the moves of an edit: each is traced; every place whose entries differ has one, and no more; and they rise
 pub record MovesTraced (m : Map) (c : Change) (moves : List Move) : Type 0 where
@@ -237,10 +238,10 @@ module _ (m : Map) (c : Change) (L : Loadable m) (ind : independent m ≡ true) 
   ind′ = put-independent m c ∙ ind
 
   abbrev O : ℕ → ℕ → Place
-  O = oldPlace m (put m c) (put-groups m c)
+  O = listedAt m
 
   abbrev N : ℕ → ℕ → Place
-  N = newPlace m (put m c) (put-groups m c)
+  N = listedAt (put m c)
 
   old-entry : (g j : ℕ) → g < m .groups → j < widthOf m → entryAt m g j ≡ O g j .entry
   old-entry g j h l = entry-placed m L ind g j h l
@@ -254,6 +255,7 @@ module _ (m : Map) (c : Change) (L : Loadable m) (ind : independent m ≡ true) 
       let (k, p, E) = placed-from m g L ind j l in
       let o : O g j ≡ placeAt m g k p = placed-place m g L ind j k p E in
       let n : N g j ≡ placeAt (put m c) g k p = placed-place (put m c) g (put-loadable m c L f) ind′ j k p (emitted-same m (put m c) (put-actions m c) ind g j k p E) in
+      let t = the-cause k p E (rw (o, n) at d) (traced m c L ind f g k p) in
       record {
         group = h;
         index = j;
@@ -267,7 +269,8 @@ module _ (m : Map) (c : Change) (L : Loadable m) (ind : independent m ≡ true) 
         emitted = E;
         old-there = ap (λ (a : Place). a .entry) o;
         new-there = ap (λ (a : Place). a .entry) n;
-        cause = rw (o, n) (the-cause k p E (rw (o, n) at d) (traced m c L ind f g k p));
+        cause = rw (o, n) t;
+        parts = rw (o, n) (cause-is m c g ind t (E .inside));
       }
     where
       the-cause : (k p : ℕ) → Emitted m g j k p → (placeAt m g k p .entry ≡ placeAt (put m c) g k p .entry → ⊥)
