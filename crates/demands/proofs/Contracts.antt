@@ -1,4 +1,4 @@
--- A call of load, of fill and of edit: its arguments, its result and its parameters at exit, of which the function's own contract holds.
+-- A call of load, of fill, of edit and of write: its arguments, its result and its parameters at exit, of which the function's own contract holds.
 -- `Pre` and `Post` are the `requires` and the `ensures` of engine's sources, as Rattle reads them, and `met` is the theorem that the
 -- function meets them.
 use mathlib.Core.Path.{_≡_, refl}
@@ -8,11 +8,13 @@ use contract.Lifetimes.{Lfts}
 use borrow.Fn.Kinds.{Dens, endedOf}
 use denote.Triple.Clauses.{AtExit}
 use denote.Ref.{now}
-use Rattle.definitions.specs.Calls.{FillAnswer, EditAnswer, loadOf, fillOf, editOf}
+use Rattle.definitions.specs.Load.{loadNumber}
+use Rattle.definitions.specs.Calls.{FillAnswer, EditAnswer, WriteAnswer, loadOf, fillOf, editOf, writeOf}
 use Rattle.history.specs.Calls.{Call}
 use Rattle.engine.specs.declared.fill.Filled.{Filled}
 use Rattle.engine.specs.declared.edit.Edited.{Edited}
-use Rattle.engine.specs.Answers.{fillAnswer, editAnswer}
+use Rattle.engine.specs.declared.write.Written.{Written}
+use Rattle.engine.specs.Answers.{fillAnswer, editAnswer, writeAnswer}
 use Rattle.engine.proofs.load.load.Reads as load
 use Rattle.engine.proofs.load.load.Kinds as load-kinds
 use Rattle.engine.proofs.load.load.Statement as load-statement
@@ -25,6 +27,10 @@ use Rattle.engine.proofs.edit.edit.Reads as edit
 use Rattle.engine.proofs.edit.edit.Kinds as edit-kinds
 use Rattle.engine.proofs.edit.edit.Statement as edit-statement
 use Rattle.engine.proofs.edit.edit.Met as edit-met
+use Rattle.engine.proofs.write.write.Reads as write
+use Rattle.engine.proofs.write.write.Kinds as write-kinds
+use Rattle.engine.proofs.write.write.Statement as write-statement
+use Rattle.engine.proofs.write.write.Met as write-met
 
 -- the functions meet their contracts: cited, so that this module falls with them
 pub load-meets : {M : Type 1} → load-statement.statement M
@@ -35,6 +41,9 @@ fill-meets = fill-met.met
 
 pub edit-meets : {M : Type 1} → edit-statement.statement M
 edit-meets = edit-met.met
+
+pub write-meets : {M : Type 1} → write-statement.statement M
+write-meets = write-met.met
 
 -- ---- load
 
@@ -49,6 +58,11 @@ pub record LoadCall : Type 0 where
 -- the frames that it was lent
 abbrev pub loadFrames : LoadCall → List ℕ
 loadFrames l = now (l .args .0)
+
+-- what its contract says
+pub load-answers : (l : LoadCall) → l .result ≡ loadNumber (loadFrames l)
+unfolding loadOf
+load-answers l = l .holds
 
 -- ---- fill
 
@@ -102,6 +116,27 @@ editAnswered c = editAnswer (c .result) (now (c .exit .0)) (now (c .exit .1 .0))
 abbrev pub callOf : EditCall → Call
 callOf c = record { edit = editFrame c; space = editSpace c; answer = editAnswered c }
 
+-- ---- write
+
+pub record WriteCall : Type 0 where
+  pub κs : Lfts 2
+  pub args : Dens κs write-kinds.ps
+  pub result : Written
+  pub exit : AtExit (endedOf 2 write-kinds.ps write-kinds.r) κs
+  pub asked : write.Pre κs args
+  pub holds : write.Post κs args result exit
+
+-- the map's frames and the space that it was lent
+abbrev pub writeFrames : WriteCall → List ℕ
+writeFrames w = now (w .args .0)
+
+abbrev pub writeSpace : WriteCall → List ℕ
+writeSpace w = now (w .args .1 .0)
+
+-- what came back
+abbrev pub writeAnswered : WriteCall → WriteAnswer
+writeAnswered w = writeAnswer (w .result) (now (w .exit .1 .0))
+
 -- ---- every lending is such a call: what the definition says comes back satisfies the contract
 
 abbrev pub load-call-of : (κs : Lfts 1) → Dens κs load-kinds.ps → LoadCall
@@ -141,6 +176,18 @@ edit-call-of κs a =
           (a .1 .1 .0, (record { ptr = a .1 .1 .1 .0 .ptr; name = a .1 .1 .1 .0 .name; now = o .space }, tt)),
         ),
       );
+      asked = tt;
+      holds = refl;
+    }
+
+abbrev pub write-call-of : (κs : Lfts 2) → Dens κs write-kinds.ps → WriteCall
+write-call-of κs a =
+    let o = writeOf (now (a .0)) (now (a .1 .0)) in
+    record {
+      κs = κs;
+      args = a;
+      result = record { number = o .number; bytes = o .bytes };
+      exit = (a .0, (record { ptr = a .1 .0 .ptr; name = a .1 .0 .name; now = o .space }, tt));
       asked = tt;
       holds = refl;
     }

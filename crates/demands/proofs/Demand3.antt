@@ -11,12 +11,12 @@ use Rattle.definitions.specs.Map.{mapOf}
 use Rattle.definitions.specs.Rule.{widthOf}
 use Rattle.definitions.specs.Table.{tableOf}
 use Rattle.definitions.specs.Load.{loadNumber}
-use Rattle.definitions.specs.Calls.{independent, loadOf, fillOf, EditAnswer, editOf}
+use Rattle.definitions.specs.Calls.{independent, fillOf, EditAnswer, editOf}
 use Rattle.history.specs.Step.{Standing, Refused}
 use Rattle.history.specs.Calls.{Run, none, then, Kept, kept}
 use Rattle.engine.specs.Calls.{Filling, filling}
 use Rattle.engine.specs.Edits.{edit-17}
-use Rattle.demands.proofs.Contracts.{LoadCall, loadFrames, FillCall, fillFrames, fillTable, fillAnswered, EditCall, editFrames, editTable, editFrame, editSpace, editAnswered, callOf}
+use Rattle.demands.proofs.Contracts.{LoadCall, loadFrames, load-answers, FillCall, fillFrames, fillTable, fillAnswered, EditCall, editFrames, editTable, editFrame, editSpace, editAnswered, callOf}
 
 -- "Its list starts from the map and the table as load and fill leave them.": load was lent these frames and took them; fill was lent them and
 -- the table rest, was not refused, and left table
@@ -39,10 +39,7 @@ pub data EditRun : List ℕ → List ℕ → List EditCall → List ℕ → List
 -- what load's and fill's contracts say of the start
 module _ (l : LoadCall) (f : FillCall) (frames rest table : List ℕ) (s : Start l f frames rest table) where
   start-loads : loadNumber frames ≡ 0
-  unfolding loadOf
-  start-loads =
-      let o : l .result ≡ loadOf (loadFrames l) = l .holds in
-      ap loadNumber (sym (s .lent-load)) ∙ sym o ∙ s .loads
+  start-loads = ap loadNumber (sym (s .lent-load)) ∙ sym (load-answers l) ∙ s .loads
 
   start-fills : Filling frames rest (fillAnswered f)
   start-fills =

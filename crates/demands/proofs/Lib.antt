@@ -1,3 +1,4 @@
 pub mod Contracts
+pub mod RoundTrip
 pub mod Demand3
 pub mod Sample
