@@ -1,5 +1,5 @@
--- A call of load, of fill, of edit and of write: its arguments, its result and its parameters at exit, of which the function's own contract holds.
--- `Pre` and `Post` are the `requires` and the `ensures` of engine's sources, as Rattle reads them, and `met` is the theorem that the
+-- A call of load, of fill, of edit and of write: its arguments, its result and its parameters at exit, of which the function's own contract
+-- holds. `Pre` and `Post` are the `requires` and the `ensures` of engine's sources, as Rattle reads them, and `met` is the theorem that the
 -- function meets them.
 use mathlib.Core.Path.{_≡_, refl}
 use mathlib.Core.List.{List}

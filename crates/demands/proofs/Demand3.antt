@@ -1,6 +1,6 @@
--- Document 01, demand 3, "Table, edits, moves", over the contracts of load, fill and edit: one theorem over every list of calls of edit from
--- the map and the table as load and fill leave them. And beside it a map with a first-n select, whose every edit is refused.
-use mathlib.Core.Path.{_≡_, refl, sym, ap, _∙_, subst}
+-- Document 01, demand 3, "Table, edits, moves", over the contracts of load, fill and edit: one theorem over every list of calls of edit
+-- from the map and the table as load and fill leave them. And beside it a map with a first-n select, whose every edit is refused.
+use mathlib.Core.Path.{_≡_, refl, sym, ap, _∙_}
 use mathlib.Core.Bool.{true, false}
 use mathlib.Core.List.{List, [], _∷_, map}
 use Prim.Native.Nat.{ℕ, _*_, _≤_}
@@ -18,8 +18,8 @@ use Rattle.engine.specs.Calls.{Filling, filling}
 use Rattle.engine.specs.Edits.{edit-17}
 use Rattle.demands.proofs.Contracts.{LoadCall, loadFrames, load-answers, FillCall, fillFrames, fillTable, fillAnswered, EditCall, editFrames, editTable, editFrame, editSpace, editAnswered, callOf}
 
--- "Its list starts from the map and the table as load and fill leave them.": load was lent these frames and took them; fill was lent them and
--- the table rest, was not refused, and left table
+-- "Its list starts from the map and the table as load and fill leave them.": load was lent these frames and took them; fill was lent them
+-- and the table rest, was not refused, and left table
 pub record Start (l : LoadCall) (f : FillCall) (frames rest table : List ℕ) : Type 0 where
   pub lent-load : loadFrames l ≡ frames
   pub loads : l .result ≡ 0

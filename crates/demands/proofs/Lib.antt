@@ -1,4 +1,6 @@
 pub mod Contracts
 pub mod RoundTrip
 pub mod Demand3
+pub mod Instance
 pub mod Sample
+pub mod ThreeCauses

@@ -1,27 +1,22 @@
 -- Document 01, "Samples": map M with one edit is an instance of demand 3, and M with a first-n select one of what stands beside it. All
 -- of it is computed from the definitions.
-use mathlib.Core.Path.{_≡_, refl, sym, ap, subst}
+use mathlib.Core.Path.{_≡_, refl}
 use mathlib.Core.Bool.{true, false}
 use mathlib.Core.List.{List, [], _∷_, _++_, map}
 use Prim.Native.Nat.{ℕ}
-use contract.Lifetimes.{Lfts}
-use denote.Ref.{RefT}
-use lib.ListN.{replicate}
 use Rattle.definitions.specs.Frames.{hex}
 use Rattle.definitions.specs.Map.{mapOf}
-use Rattle.definitions.specs.Calls.{FillAnswer, EditAnswer, loadOf, independent, fillOf, editOf}
+use Rattle.definitions.specs.Calls.{loadOf, independent, fillOf, editOf}
 use Rattle.definitions.specs.Open.{computing}
 use Rattle.samples.specs.Samples.{M, line}
 use Rattle.history.specs.Calls.{Kept}
-use Rattle.demands.proofs.Contracts.{LoadCall, load-call-of, FillCall, fill-call-of, EditCall, edit-call-of, callOf, editAnswered}
-use Rattle.demands.proofs.Demand3.{Start, EditRun, empty, next, demand-3, Unaltered, first-n-refused}
+use Rattle.demands.proofs.Contracts.{EditCall, callOf, editAnswered}
+use Rattle.demands.proofs.Demand3.{Start, EditRun, empty, demand-3, Unaltered, first-n-refused}
+use Rattle.demands.proofs.Instance.{lentSpace, Lending, loadCall, fillCall, editCall, starts, answers}
 
--- a table of four places and a space of two moves, as they are lent
+-- a table of four places, as it is lent
 abbrev pub lentTable : List ℕ
 lentTable = 7 ∷ 7 ∷ 7 ∷ 7 ∷ []
-
-abbrev pub lentSpace : List ℕ
-lentSpace = replicate 46 7
 
 -- "11000000000000ffff", "11000000010000ffff": the table that fill leaves
 abbrev pub M-table : List ℕ
@@ -94,66 +89,33 @@ pub F-edited : editOf F M-table M-edit lentSpace ≡ record { number = 17; moves
 unfolding computing
 F-edited = refl
 
--- what is lent has a place and a name of its own, whichever: 0 is the map, 1 the table, 2 the edit frame, 3 the space
-module _ (κ-load : Lfts 1) (κ-fill : Lfts 2) (κ-edit : Lfts 4) (at : ℕ → ℕ × ℕ) (name : ℕ → ℕ) where
-  abbrev lent : ℕ → List ℕ → RefT (List ℕ)
-  lent k bytes = record { ptr = at k; name = name k; now = bytes }
-
-  -- the calls that are lent these
-  abbrev pub M-load : LoadCall
-  M-load = load-call-of κ-load (lent 0 M, tt)
-
-  abbrev pub M-fill : FillCall
-  M-fill = fill-call-of κ-fill (lent 0 M, (lent 1 lentTable, tt))
-
+module _ (k : Lending) where
+  -- the calls of M: load, fill, and edit
   abbrev pub M-call : EditCall
-  M-call = edit-call-of κ-edit (lent 0 M, (lent 1 M-table, (lent 2 M-edit, (lent 3 lentSpace, tt))))
+  M-call = editCall k M M-table M-edit lentSpace
 
-  pub M-start : Start M-load M-fill M lentTable M-table
-  M-start =
-      record {
-        lent-load = refl;
-        loads = M-loads;
-        lent-fill = refl;
-        lent-table = refl;
-        fills = ap (λ (o : FillAnswer). o .number) M-fills;
-        left-table = ap (λ (o : FillAnswer). o .table) M-fills;
-      }
+  pub M-start : Start (loadCall k M) (fillCall k M lentTable) M lentTable M-table
+  M-start = starts k M-loads M-fills
 
   -- number 0, two moves, their bytes, and four holes
   pub M-answered : editAnswered M-call ≡ record { number = 0; moves = 2; frames = M′; table = M′-table; space = M-moves }
   M-answered = M-edited
 
   pub M-run : EditRun M M-table (M-call ∷ []) M′ M′-table
-  M-run =
-      next M-call refl refl
-      (subst (λ (o : EditAnswer). EditRun (o .frames) (o .table) [] M′ M′-table) (sym M-answered) empty)
+  M-run = answers k M-edited empty
 
   pub M-kept : Kept lentTable M M-table (map callOf (M-call ∷ [])) M′ M′-table
-  M-kept = demand-3 M-load M-fill (M-call ∷ []) M lentTable M-table M′ M′-table M-start M-independent M-run
+  M-kept = demand-3 (loadCall k M) (fillCall k M lentTable) (M-call ∷ []) M lentTable M-table M′ M′-table M-start M-independent M-run
 
-  abbrev pub F-load : LoadCall
-  F-load = load-call-of κ-load (lent 0 F, tt)
-
-  abbrev pub F-fill : FillCall
-  F-fill = fill-call-of κ-fill (lent 0 F, (lent 1 lentTable, tt))
-
+  -- and those of M with a first-n select
   abbrev pub F-call : EditCall
-  F-call = edit-call-of κ-edit (lent 0 F, (lent 1 M-table, (lent 2 M-edit, (lent 3 lentSpace, tt))))
+  F-call = editCall k F M-table M-edit lentSpace
 
-  pub F-start : Start F-load F-fill F lentTable M-table
-  F-start =
-      record {
-        lent-load = refl;
-        loads = F-loads;
-        lent-fill = refl;
-        lent-table = refl;
-        fills = ap (λ (o : FillAnswer). o .number) F-fills;
-        left-table = ap (λ (o : FillAnswer). o .table) F-fills;
-      }
+  pub F-start : Start (loadCall k F) (fillCall k F lentTable) F lentTable M-table
+  F-start = starts k F-loads F-fills
 
   pub F-run : EditRun F M-table (F-call ∷ []) F M-table
-  F-run = next F-call refl refl (subst (λ (o : EditAnswer). EditRun (o .frames) (o .table) [] F M-table) (sym F-edited) empty)
+  F-run = answers k F-edited empty
 
   pub F-unaltered : Unaltered F M-table (F-call ∷ []) F M-table
-  F-unaltered = first-n-refused F-load F-fill (F-call ∷ []) F lentTable M-table F M-table F-start F-first-n F-run
+  F-unaltered = first-n-refused (loadCall k F) (fillCall k F lentTable) (F-call ∷ []) F lentTable M-table F M-table F-start F-first-n F-run

@@ -1,7 +1,7 @@
 -- A list of calls of edit, by the definition of each, and demand 3 of it. Assumes nothing.
 use mathlib.Core.Path.{_≡_, refl, sym, ap, ap₂, _∙_, subst}
-use mathlib.Core.Bool.{Bool, true, false, cond}
-use mathlib.Core.List.{List, [], _∷_, _++_, List·Memᴰ}
+use mathlib.Core.Bool.{true}
+use mathlib.Core.List.{List, [], _∷_, List·Memᴰ}
 use Prim.Native.Nat.{ℕ, zero, suc, _+_, _*_, _<_, _≤_}
 use native.Mathlib.Omega.{arith}
 use native.Mathlib.Nat.{mul-le-mul-right}
@@ -13,14 +13,16 @@ use Rattle.definitions.specs.Lists.{over}
 use Rattle.definitions.specs.Map.{Map, mapOf}
 use Rattle.definitions.specs.Select.{entriesOf}
 use Rattle.definitions.specs.Rule.{widthOf, placedOf}
-use Rattle.definitions.specs.Table.{runsTo, runsOf, rowIn, tableIn, tableOf}
+use Rattle.definitions.specs.Table.{runsOf, rowIn, tableOf}
 use Rattle.definitions.specs.Edit.{changeOf, put, movesOf}
 use Rattle.definitions.specs.Writing.{mapText}
 use Rattle.definitions.specs.Load.{loadNumber}
-use Rattle.definitions.specs.Calls.{independent, fits, EditAnswer, EditCase, caseOf, editNumber, editBy, editAnswer, editOf}
-use Rattle.laws.specs.Loadable.{Loadable, put-groups, put-width}
+use Rattle.definitions.specs.Calls.{fits, EditAnswer, EditCase, caseOf, editNumber, editBy, editAnswer, editOf}
+use Rattle.laws.specs.Loadable.{put-groups, put-width}
 use Rattle.tracing.specs.Listed.{entryAt, table-width, table-row}
-use Rattle.tracing.specs.Moves.{MovesTraced, moves-traced}
+-- passed on to those who speak of `Answered`
+pub use Rattle.tracing.specs.Moves.{MovesTraced}
+use Rattle.tracing.specs.Moves.{moves-traced}
 use Rattle.text.specs.Agreement.{loaded-map, loaded-text}
 use Rattle.history.specs.Step.{Standing, Done, Told, unfit, cramped, done, step-told, step-stands}
 

@@ -1,7 +1,7 @@
--- Document 01, "Walk, select and rule" and "Table, edits, moves": in a loadable map of independent selects a group's list is exactly W long,
--- each of its places is one of a working list that an emit appends, and so is each entry of the table. Assumes nothing.
+-- Document 01, "Walk, select and rule" and "Table, edits, moves": in a loadable map of independent selects a group's list is exactly W
+-- long, each of its places is one of a working list that an emit appends, and so is each entry of the table. Assumes nothing.
 use mathlib.Core.Path.{_≡_, refl, sym, ap, ap₂, _∙_, subst}
-use mathlib.Core.Bool.{true, false, false≢true}
+use mathlib.Core.Bool.{true, false≢true}
 use mathlib.Core.List.{List, [], _∷_, _++_, append-nil, append-assoc}
 use mathlib.Core.Logic.{_⊎_, inl, inr, ⊎-elim}
 use Prim.Native.Nat.{ℕ, zero, suc, _+_, _-_, _*_, _<_, _≤_}

@@ -1,5 +1,5 @@
--- Document 01, "Table, edits, moves": the moves of a fitting edit are those of the places whose entries differ, in their order, each with its
--- old and new entry, and each one's cause is traced to the edited device. Assumes nothing.
+-- Document 01, "Table, edits, moves": the moves of a fitting edit are those of the places whose entries differ, in their order, each with
+-- its old and new entry; a move's own walks first part where its cause stands, and that is traced to the edited device. Assumes nothing.
 use mathlib.Core.Path.{_≡_, refl, sym, ap, ap₂, _∙_, subst}
 use mathlib.Core.Bool.{Bool, true, false, cond, _&&_, _||_}
 use mathlib.Core.List.{List, [], _∷_, _++_, append-nil, append-assoc, List·Memᴰ, List·Memᴰ·head, List·Memᴰ·tail, List·Memᴰ·append-cases, List·Memᴰ·eq-of-singleton, Memᴰ·append-left, Memᴰ·append-right}
