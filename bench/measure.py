@@ -13,13 +13,13 @@ import maps
 BUDGET = 2.5  # an edit that moves few places, in fills
 
 
-def run(folder, what, name, text, rounds, program="bench"):
-    """What the program prints: a name and two numbers a line."""
+def run(folder, words, name, text, rounds):
+    """What a program prints of a map: a name and two numbers a line. The first of the words is the program."""
     path = folder / f"{name}.map"
     path.write_text(text)
-    out = subprocess.run([folder / program, what, path, str(rounds)], stdout=subprocess.PIPE, text=True)
+    out = subprocess.run([folder / words[0], *words[1:], path, str(rounds)], stdout=subprocess.PIPE, text=True)
     if out.returncode != 0:
-        sys.exit(f"{name}: the program `{program}` failed")
+        sys.exit(f"{name}: the program `{words[0]}` failed")
     return {word: (float(a), float(b)) for word, a, b in (line.split() for line in out.stdout.splitlines())}
 
 
@@ -46,10 +46,10 @@ def main():
     times = [["the engine's own times", "load", "place", "fill", "edit 21", "edit 22", "hash"]]
     fills = [["edit / fill in the engine", "edit 21", "edit 22", "moves 21", "moves 22"]]
     for name, title, text in maps.COMPARED:
-        got = run(folder, "all", name, text(), rounds)
+        got = run(folder, ["bench", "all"], name, text(), rounds)
         columns = [got[call] for call in ("load", "place", "fill", "acceptance", "weight", "hash")]
         ratios.append([title] + [ratio(pair) for pair in columns])
-        branchless = run(folder, "fill", name, text(), rounds, "bench-branchless")["fill"]
+        branchless = run(folder, ["bench-branchless", "fill"], name, text(), rounds)["fill"]
         ratios[-1].insert(4, ratio(branchless))
         times.append([title] + [time_of(pair[0]) for pair in columns])
         share = [got[call][0] / got["fill"][0] for call in ("acceptance", "weight")]
@@ -66,7 +66,7 @@ def main():
         rows = [[f"fill by {name}: {title}", "engine", "plain C", "ratio"]]
         measured = []
         for number, text in points:
-            pair = run(folder, "fill", "growth", text(), rounds)["fill"]
+            pair = run(folder, ["bench", "fill"], "growth", text(), rounds)["fill"]
             measured.append([number, pair[0], pair[1]])
             rows.append([f"{number:,}", time_of(pair[0]), time_of(pair[1]), ratio(pair)])
         growth.append({"name": name, "title": title, "points": measured})

@@ -2,7 +2,6 @@
 ghost use mathlib.Core.Path.{_≡_};
 ghost use Rattle.definitions.specs.Hash.{hash2};
 ghost use Rattle.definitions.specs.Calls.{loadOf, fillOf, editOf};
-use engine::day;
 use engine::edit;
 use engine::fill;
 use engine::load;
@@ -61,5 +60,5 @@ pub extern "C" fn bench_edit(
 pub extern "C" fn bench_hash(p: u32, q: u32) -> u32
     ensures { λ h. ⌜ h ≡ hash2 1315423911 p q ⌝ }
 {
-    jenkins::hash2(day::SEED, p, q)
+    jenkins::hash2(jenkins::SEED, p, q)
 }

@@ -6,7 +6,7 @@ use mathlib.Core.List.{List, [], _∷_, map}
 use Prim.Native.Nat.{ℕ, zero, suc, _<_, _≤_}
 use native.Mathlib.Omega.{arith}
 use lib.Dec.{leb, eqb}
-use lib.ListN.{length, getD, drop, length-map}
+use lib.ListN.{length, getD}
 use borrow.Author.Tests.{leb-true, eqb-true, eqb-false, eq-eqb, ne-eqb}
 use Rattle.definitions.specs.declared.Step.{Step}
 use Rattle.definitions.specs.declared.Mode.the-variants.{FirstN, Independent}
@@ -17,6 +17,7 @@ use Rattle.definitions.specs.Map.{Map, actionOf, actionsOf}
 use Rattle.definitions.specs.Load.{within, takeRanged, selectRanged, emitRanged, stepRanged, ranged}
 use Rattle.laws.specs.Lists.{both, every-head, every-tail, getD-mapped}
 use Rattle.laws.specs.Loadable.{ranged-is}
+use Rattle.laws.specs.Blocks.{length-actions}
 use Rattle.text.specs.Records.{noStep}
 
 -- an action whose numbers are in range
@@ -109,24 +110,14 @@ unfolding AllRanged
 map-ranged [] e = tt
 map-ranged (s ∷ ss) e = (step-ranged s (every-head stepRanged s ss e), map-ranged ss (every-tail stepRanged s ss e))
 
--- one of them, and those behind the first k
+-- one of them
 pub ranged-at : (xs : List Action) (k : ℕ) → AllRanged xs → k < length xs → ActionRanged (getD xs k Idle)
 unfolding AllRanged
 ranged-at [] k r h = absurd (omega arith)
 ranged-at (a ∷ xs) zero r h = r .0
 ranged-at (a ∷ xs) (suc k) r h = ranged-at xs k (r .1) (omega arith)
 
-pub ranged-drop : (xs : List Action) (k : ℕ) → AllRanged xs → AllRanged (drop k xs)
-unfolding AllRanged
-ranged-drop xs zero r = r
-ranged-drop [] (suc k) r = r
-ranged-drop (a ∷ xs) (suc k) r = ranged-drop xs k (r .1)
-
 module _ (m : Map) where
-  pub length-actions : length (actionsOf m) ≡ length (m .steps)
-  unfolding actionsOf
-  length-actions = length-map (m .steps) actionOf
-
   -- the action of step k
   pub action-at : (k : ℕ) → k < length (m .steps) → getD (actionsOf m) k Idle ≡ actionOf (getD (m .steps) k noStep)
   unfolding actionsOf
@@ -138,4 +129,4 @@ module _ (m : Map) where
   actions-ranged e = map-ranged (m .steps) (ranged-is m e .steps)
 
   pub action-ranged : (k : ℕ) (a : Action) → ranged m ≡ true → k < length (m .steps) → a ≡ getD (actionsOf m) k Idle → ActionRanged a
-  action-ranged k a e h q = rw q (ranged-at (actionsOf m) k (actions-ranged e) (omega (arith, length-actions)))
+  action-ranged k a e h q = rw q (ranged-at (actionsOf m) k (actions-ranged e) (omega (arith, length-actions m)))

@@ -1,28 +1,27 @@
 -- The products in the blocks of a rule, and the sums of the blocks' widths, after its first k steps: how large they are in a map that
 -- questions 5, 11 and 12 take. Assumes nothing.
-use mathlib.Core.Path.{_≡_, refl, ap}
-use mathlib.Core.Bool.{Bool, true, false, cond, false≢true}
-use Prim.Native.Nat.{ℕ, zero, suc, _+_, _*_, _≤_}
-use mathlib.Core.List.{List, [], _∷_}
+use mathlib.Core.Path.{_≡_, refl, sym, ap, _∙_}
+use mathlib.Core.Bool.{true, false≢true}
+use Prim.Native.Nat.{ℕ, zero, suc, _+_, _-_, _*_, _≤_}
+use mathlib.Core.List.{List, _∷_}
 use native.Mathlib.Omega.{arith}
 use native.Mathlib.Nat.{le-mul-of-pos-right}
-use lib.Dec.{ltb}
 use lib.ListN.{length, getD, drop, drop-of-length-le}
 use lib.Seq.{drop-cons}
 use borrow.Author.Tests.{leb-true}
 use Rattle.definitions.specs.declared.Action.{Action}
 use Rattle.definitions.specs.declared.Action.the-variants.{Take, Select, Emit, Idle}
 use Rattle.definitions.specs.declared.Standing.{Standing}
-use Rattle.definitions.specs.declared.Standing.the-variants.{Outside, Inside, Broken}
+use Rattle.definitions.specs.declared.Standing.the-variants.{Inside}
 use Rattle.definitions.specs.Lists.{every, sum}
 use Rattle.definitions.specs.Map.{Map, actionsOf}
 use Rattle.definitions.specs.Rule.{widthsFrom, widths, widthOf}
-use Rattle.definitions.specs.Load.{ranged, stand, standing, isOutside, inBlocks, slim}
+use Rattle.definitions.specs.Load.{ranged, standing, isOutside, inBlocks, slim}
 use Rattle.laws.specs.Lists.{every-head, every-tail}
 use Rattle.laws.specs.Loadable.{slim-is}
-use Rattle.blocks.specs.Actions.{AllRanged, ranged-drop, actions-ranged}
+use Rattle.blocks.specs.Actions.{action-ranged}
 use Rattle.blocks.specs.Widths.{narrow}
-use Rattle.blocks.specs.Standing.{standBy, broken-stays, rest-outside, never-broken}
+use Rattle.laws.specs.Blocks.{InOrder, takes, selects, emits, length-actions, ends-outside, step-in-order}
 
 -- the product in the block, p before it, after one action more
 unfoldable pub productAfter : ℕ → Action → ℕ
@@ -82,78 +81,59 @@ module _ (xs : List Action) where
 
 -- ---- blocks
 
-module _ (m : Map) where
-  -- inside a block an emit is to come, whose width is at least the product so far, since each count is 1 at least
-  inside-small : (xs : List Action) (p u : ℕ) → AllRanged xs → isOutside (standBy m (Inside u) xs) ≡ true → every narrow (widthsFrom p xs) ≡ true
-      → (p ≤ 16) × (p ≤ sum (widthsFrom p xs))
-  unfolding standBy stand isOutside widthsFrom sum AllRanged
-  inside-small [] p u r o e = absurd (false≢true o)
-  inside-small (Take b ∷ xs) p u r o e = absurd (broken-stays m xs o)
-  inside-small (Select mode n t ∷ xs) p u r o e = go (ltb t u) o (λ q. inside-small xs (p * n) t (r .1) q e)
-    where
-      go : (b : Bool) → isOutside (standBy m (cond b (Inside t) Broken) xs) ≡ true
-          → (isOutside (standBy m (Inside t) xs) ≡ true → (p * n ≤ 16) × (p * n ≤ sum (widthsFrom (p * n) xs)))
-          → (p ≤ 16) × (p ≤ sum (widthsFrom (p * n) xs))
-      go true q rest = let l = rest q in let g : p ≤ p * n = le-mul-of-pos-right p (r .0 .0) in (omega arith, omega arith)
-      go false q rest = absurd (broken-stays m xs q)
-  inside-small (Emit ∷ xs) p u r o e = (leb-true p 16 (every-head narrow p (widthsFrom p xs) e), omega arith)
-  inside-small (Idle ∷ xs) p u r o e = absurd (broken-stays m xs o)
+-- what is emitted so far is at most W
+pub emitted-most : (m : Map) (k : ℕ) → k ≤ length (actionsOf m) → emittedTo (actionsOf m) k ≤ widthOf m
+unfolding widthOf widths
+emitted-most m k h = omega (arith, sum-to (actionsOf m) k h)
 
-  -- only an emit leads outside, and it leaves the product as it is
-  outside-same : (a : Action) (st : Standing) (p : ℕ) → isOutside (stand m st a) ≡ true → productAfter p a ≡ p
-  unfolding stand isOutside productAfter
-  outside-same (Take b) Outside p o = absurd (false≢true o)
-  outside-same (Take b) (Inside u) p o = absurd (false≢true o)
-  outside-same (Take b) Broken p o = absurd (false≢true o)
-  outside-same (Select mode n t) Outside p o = absurd (false≢true o)
-  outside-same (Select mode n t) (Inside u) p o = absurd (go (ltb t u) o)
-    where
-      go : (b : Bool) → isOutside (cond b (Inside t) Broken) ≡ true → ⊥
-      go true q = false≢true q
-      go false q = false≢true q
-  outside-same (Select mode n t) Broken p o = absurd (false≢true o)
-  outside-same Emit st p o = refl
-  outside-same Idle st p o = refl
+-- and at the end is W
+pub emitted-all : (m : Map) → emittedTo (actionsOf m) (length (actionsOf m)) ≡ widthOf m
+unfolding widthOf widths widthsFrom sum
+emitted-all m =
+    let xs = actionsOf m in
+    omega (arith, rw (drop-of-length-le xs {i = length xs} (omega arith)) at (sum-to xs (length xs) (omega arith)))
 
--- how large they are
 module _ (m : Map) (r : ranged m ≡ true) (b : inBlocks m ≡ true) (s : slim m ≡ true) where
-  -- inside a block
-  inside-both : (k u : ℕ) → k ≤ length (actionsOf m) → standing m k ≡ Inside u
-      → (productTo (actionsOf m) k ≤ 16) × (emittedTo (actionsOf m) k + productTo (actionsOf m) k ≤ widthOf m)
-  unfolding widthOf widths
-  inside-both k u h e =
-      let xs = actionsOf m in
-      let o = rw e at (rest-outside m b k h) in
-      let l = inside-small m (drop k xs) (productTo xs k) u (ranged-drop xs k (actions-ranged m r)) o (every-to xs k h (slim-is m s .blocks)) in
-      (l .0, omega (arith, l .1, sum-to xs k h))
+  -- the product after the first k steps is at most 16, and with what they emit at most W
+  abbrev Small : ℕ → Type 0
+  Small k = (productTo (actionsOf m) k ≤ 16) × (emittedTo (actionsOf m) k + productTo (actionsOf m) k ≤ widthOf m)
+
+  -- inside a block, n steps before the end: an emit is to come, whose width is at least the product so far, since each count is 1 at least
+  inside-from : (n k u : ℕ) → n + k ≡ length (actionsOf m) → standing m k ≡ Inside u → Small k
+  unfolding isOutside productTo emittedTo productAfter addedBy widths widthsFrom
+  inside-from zero k u h e =
+      let z : length (actionsOf m) ≡ k = omega arith in
+      absurd (false≢true (sym (ap isOutside (ap (standing m) z ∙ e)) ∙ ends-outside m b))
+  inside-from (suc n) k u h e = go (step-in-order m b k (omega arith)) refl e refl (λ t. inside-from n (suc k) t (omega arith))
+    where
+      go : {st st′ : Standing} {a : Action} → InOrder m st a st′ → getD (actionsOf m) k Idle ≡ a → st ≡ Inside u → standing m (suc k) ≡ st′
+          → ((t : ℕ) → standing m (suc k) ≡ Inside t → Small (suc k)) → Small k
+      go takes q f o rest = absurd (let z : _≡_ {A = ℕ} 0 1 = cc in omega arith)
+      go (selects {n = c} {t} l) q f o rest =
+          let g = rw q at (rest t o) in
+          let w = action-ranged m k _ r (omega (arith, length-actions m)) (sym q) in
+          let d : productTo (actionsOf m) k ≤ productTo (actionsOf m) k * c = le-mul-of-pos-right (productTo (actionsOf m) k) (w .0) in
+          (omega (arith, g .0), omega (arith, g .1))
+      go emits q f o rest = (
+        leb-true _ 16 (every-head narrow _ _ (rw (drop-cons (actionsOf m) k Idle (omega arith), q) at (every-to (actionsOf m) k (omega arith) (slim-is m s .blocks)))),
+        rw q at (emitted-most m (suc k) (omega arith)),
+      )
+
+  inside-small : (k u : ℕ) → k ≤ length (actionsOf m) → standing m k ≡ Inside u → Small k
+  inside-small k u h e = inside-from (length (actionsOf m) - k) k u (omega arith) e
 
   -- the product so far is at most 16
   pub product-small : (k : ℕ) → k ≤ length (actionsOf m) → productTo (actionsOf m) k ≤ 16
-  unfolding productTo standing isOutside
+  unfolding productTo productAfter
   product-small zero h = omega arith
-  product-small (suc k) h = go (standing m (suc k)) refl (product-small k (omega arith))
+  product-small (suc k) h = go (step-in-order m b k h) refl refl (product-small k (omega arith))
     where
-      go : (st : Standing) → standing m (suc k) ≡ st → productTo (actionsOf m) k ≤ 16 → productTo (actionsOf m) (suc k) ≤ 16
-      go Outside e l = omega (arith, outside-same m (getD (actionsOf m) k Idle) (standing m k) (productTo (actionsOf m) k) (ap isOutside e))
-      go (Inside u) e l = inside-both (suc k) u h e .0
-      go Broken e l = absurd (never-broken m b (suc k) h e)
+      go : {st st′ : Standing} {a : Action} → InOrder m st a st′ → getD (actionsOf m) k Idle ≡ a → standing m (suc k) ≡ st′
+          → productTo (actionsOf m) k ≤ 16 → productAfter (productTo (actionsOf m) k) a ≤ 16
+      go takes q o l = omega arith
+      go (selects {t} g) q o l = rw q at (inside-small (suc k) t h o .0)
+      go emits q o l = l
 
-  -- inside a block it and what is emitted are at most W, which is at most 32
-  pub inside-width : (k u : ℕ) → k ≤ length (actionsOf m) → standing m k ≡ Inside u → emittedTo (actionsOf m) k + productTo (actionsOf m) k ≤ widthOf m
-  inside-width k u h e = inside-both k u h e .1
-
+  -- and inside a block, with what is emitted, at most 32
   pub sum-small : (k u : ℕ) → k ≤ length (actionsOf m) → standing m k ≡ Inside u → emittedTo (actionsOf m) k + productTo (actionsOf m) k ≤ 32
-  sum-small k u h e = omega (arith, inside-width k u h e, slim-is m s .width)
-
-module _ (m : Map) where
-  -- what is emitted so far is at most W
-  pub emitted-most : (k : ℕ) → k ≤ length (actionsOf m) → emittedTo (actionsOf m) k ≤ widthOf m
-  unfolding widthOf widths
-  emitted-most k h = omega (arith, sum-to (actionsOf m) k h)
-
-  -- and at the end is W
-  pub emitted-all : emittedTo (actionsOf m) (length (actionsOf m)) ≡ widthOf m
-  unfolding widthOf widths widthsFrom sum
-  emitted-all =
-      let xs = actionsOf m in
-      omega (arith, rw (drop-of-length-le xs {i = length xs} (omega arith)) at (sum-to xs (length xs) (omega arith)))
+  sum-small k u h e = omega (arith, inside-small k u h e .1, slim-is m s .width)

@@ -4,33 +4,32 @@ use mathlib.Core.Bool.{true, false≢true}
 use mathlib.Core.List.{List, [], _∷_, _++_}
 use mathlib.Core.Logic.{inl}
 use Prim.Native.Nat.{ℕ, zero, suc, _+_, _-_, _*_, _/_, _%_, _<_, _≤_}
-use native.Mathlib.Nat.{mul-le-mul-right, div-lt-iff-lt-mul}
+use native.Mathlib.Nat.{div-lt-iff-lt-mul}
 use native.Mathlib.Decide.{decLt}
 use native.Mathlib.Numerals.{add-one}
 use native.Mathlib.Omega.{arith}
-use lib.ListN.{length, getD, take, set, length-append, length-map, List·getD-append, List·getD-map}
-use lib.Seq.{take-suc-set, take-take, getD-take, getD-append-add, getD-set-same, length-take-le, paste, take-paste}
+use lib.ListN.{length, getD, take, length-append, length-map, List·getD-append, List·getD-map}
+use lib.Seq.{take-take, getD-take, getD-append-add, length-take-le, paste, take-paste}
+use Rattle.definitions.specs.declared.Mode.{Mode}
 use Rattle.definitions.specs.declared.Mode.the-variants.{FirstN, Independent}
 use Rattle.definitions.specs.declared.Action.{Action}
 use Rattle.definitions.specs.declared.Action.the-variants.{Take, Select, Emit, Idle}
 use Rattle.definitions.specs.Lists.{every}
-use Rattle.definitions.specs.Map.{bucketItem}
 use Rattle.definitions.specs.View.{View}
 use Rattle.definitions.specs.Walk.{hole}
 use Rattle.definitions.specs.Select.{Place, placeUnder, entriesOf, nowhere, selectOf}
 use Rattle.definitions.specs.Rule.{Run, taken, selected, act, runTo}
 use Rattle.definitions.specs.Edit.{parting, causeOf}
 use Rattle.definitions.specs.Calls.{notFirstN}
-use Rattle.hierarchy.specs.Arrays.{viewFrom}
+use Rattle.hierarchy.specs.Arrays.{viewIn}
 use Rattle.laws.specs.Lists.{every-at}
 use Rattle.tracing.specs.Runs.{rankUnder, placeAfter, select-count, select-place}
-use Rattle.blocks.specs.Products.{productAfter, addedBy, productTo, emittedTo}
-use Rattle.placement.specs.declared.select.Chosen.{Chosen}
-use Rattle.placement.specs.Bare.{Bare, BareRun, bareSelect, bareRunTo, select-bare, run-bare}
-use Rattle.placement.specs.Chosen.{bareIn}
+use Rattle.placement.specs.declared.rule.Progress.{Progress}
+use Rattle.placement.specs.Bare.{BareRun, bareRunOf, bareAct, act-bare, run-bare}
 use Rattle.placement.specs.Entries.{Each, each-at, same-at}
-use Rattle.placement.specs.Working.{Workable, working-workable}
-use Rattle.placement.specs.Ruled.{Keeps, Ready, Ruled, reachedTo}
+use Rattle.placement.specs.Working.{Workable}
+use Rattle.placement.specs.Ruled.{Ready}
+use Rattle.placement.specs.Progress.{runIn, Room, Doable, Acted, Ran, ran-more, doable}
 use Rattle.causes.specs.declared.Both.{Both}
 use Rattle.causes.specs.Told.{Told, told-is, Causes}
 use Rattle.causes.specs.Under.{TellsUnder, TellsTo}
@@ -71,84 +70,133 @@ workable-above es len n k h w g p l =
 
 -- ---- two runs in one `Both`
 
--- p holds the two runs: their working entries, and the causes of the places of both lists
+-- p holds the two runs: their entries, and the causes of the places of both lists
 pub record Beside (s s′ : Run) (p : Both) : Type 0 where
-  pub old : take (p .len) (p .old) ≡ entriesOf (s .working)
-  pub new : take (p .len) (p .new) ≡ entriesOf (s′ .working)
-  pub len : length (s .working) ≡ p .len
+  pub old : runIn (p .old) ≡ bareRunOf s
+  pub new : runIn (p .new) ≡ bareRunOf s′
+  pub len : length (s .working) ≡ p .old .len
+  pub emitted : length (s .list) ≡ p .old .emitted
   pub told : Causes (p .causes) (s .working) (s′ .working)
-  pub emitted : length (s .list) ≡ p .emitted
   pub listed : Causes (p .list) (s .list) (s′ .list)
 
--- there is room for what action a does, and it can be done
-abbrev pub Able : Both → Action → Type 0
-Able p (Take b) = b < 256
-Able p (Select mode n t) = (mode ≡ Independent) × (1 ≤ n) × (n ≤ 16) × (p .len * n ≤ 16) × Each Workable (take (p .len) (p .old)) × Each Workable (take (p .len) (p .new))
-Able p Emit = (p .len ≤ 16) × (p .emitted + p .len ≤ 32)
-Able p Idle = Unit {0}
+-- a run can do action a
+abbrev pub Fit : Progress → Action → Type 0
+Fit q a = Room q × (q .tries ≤ 1000000) × Doable q a
 
--- c is what an independent select puts out over the first len entries of a working list
-abbrev pub Chose : View → ℕ → ℕ → ℕ → List ℕ → ℕ → Chosen → Type 0
-Chose v x n t working len c = (bareIn c ≡ bareSelect v x Independent n t (take len working)) × (c .len ≤ len * n)
+-- both can, and it leaves holes
+abbrev pub Able : Both → Action → Type 0
+Able p a = Fit (p .old) a × Fit (p .new) a × (notFirstN a ≡ true)
+
+pub leaves-holes : (mode : Mode) (n t : ℕ) → notFirstN (Select mode n t) ≡ true → mode ≡ Independent
+unfolding notFirstN
+leaves-holes Independent n t i = refl
+leaves-holes FirstN n t i = absurd (false≢true i)
+
+-- cs are the causes of the places of the working lists after action a
+unfoldable pub Worked : View → View → ℕ → Both → Action → List ℕ → Type 0
+Worked v v′ x p a cs = (s s′ : Run) → Beside s s′ p → Causes cs (act v x s a .working) (act v′ x s′ a .working)
+
+-- and of the places of the lists
+unfoldable pub Listed : View → View → ℕ → Both → Action → List ℕ → Type 0
+Listed v v′ x p a cs = (s s′ : Run) → Beside s s′ p → Causes cs (act v x s a .list) (act v′ x s′ a .list)
 
 -- q is what action a makes of p
-unfoldable pub Leads : View → View → ℕ → Both → Action → Both → Type 0
-Leads v v′ x p a q = (s s′ : Run) → Beside s s′ p → Beside (act v x s a) (act v′ x s′ a) q
+pub record Leads (v v′ : View) (x : ℕ) (p : Both) (a : Action) (q : Both) : Type 0 where
+  pub old : Acted v x (p .old) a (q .old)
+  pub new : Acted v′ x (p .new) a (q .new)
+  pub beside : (s s′ : Run) → Beside s s′ p → Beside (act v x s a) (act v′ x s′ a) q
+
+-- ---- one action
+
+-- what holds of a run holds of it after an action too
+acted-run : (v : View) (x : ℕ) (q o : Progress) (a : Action) (s : Run) → runIn q ≡ bareRunOf s → Acted v x q a o → runIn o ≡ bareRunOf (act v x s a)
+acted-run v x q o a s e t = t .0 ∙ ap (λ (r : BareRun). bareAct v x r a) e ∙ sym (act-bare v x s a)
+
+-- the entries of a list that the front of an array holds are as many
+held-length : (es : List ℕ) (len : ℕ) (ps : List Place) → take len es ≡ entriesOf ps → len ≤ length es → length ps ≡ len
+held-length es len ps e h = sym (length-entries ps) ∙ ap (λ (l : List ℕ). length l) (sym e) ∙ length-take-le len es h
 
 module _ (v v′ : View) (x : ℕ) (p : Both) where
-  pub leads-idle : Leads v v′ x p Idle p
-  unfolding Leads act
-  leads-idle s s′ h = h
-
-  pub leads-take : (b i : ℕ) → i ≡ bucketItem b → 0 < length (p .old) → 0 < length (p .new) → 0 < length (p .causes)
-      → Leads v v′ x p (Take b) (record { old = set (p .old) 0 i; new = set (p .new) 0 i; causes = set (p .causes) 0 0; len = 1; list = p .list; emitted = p .emitted })
-  unfolding Leads act taken entriesOf
-  leads-take b i e ho hn hc s s′ h =
-      record {
-        old = take-suc-set (p .old) 0 i ho ∙ ap (λ (k : ℕ). k ∷ []) e;
-        new = take-suc-set (p .new) 0 i hn ∙ ap (λ (k : ℕ). k ∷ []) e;
-        len = refl;
-        told = record { same = refl; each = one };
-        emitted = h .emitted;
-        listed = h .listed;
-      }
+  pub leads : (a : Action) (q : Both) → q .old .len ≤ length (q .old .working) → q .old .emitted ≤ length (q .old .list)
+      → Acted v x (p .old) a (q .old) → Acted v′ x (p .new) a (q .new) → Worked v v′ x p a (q .causes) → Listed v v′ x p a (q .list)
+      → Leads v v′ x p a q
+  unfolding Worked Listed
+  leads a q hw hl o n w l = record { old = o; new = n; beside = after }
     where
-      one : (j : ℕ) → j < 1 → Told (getD (set (p .causes) 0 0) j 0) (getD (taken b) j nowhere) (getD (taken b) j nowhere)
-      one zero l = inl (refl, getD-set-same (p .causes) 0 0 0 hc)
+      after : (s s′ : Run) → Beside s s′ p → Beside (act v x s a) (act v′ x s′ a) q
+      after s s′ h =
+          let e = acted-run v x (p .old) (q .old) a s (h .old) o in
+          record {
+            old = e;
+            new = acted-run v′ x (p .new) (q .new) a s′ (h .new) n;
+            len = held-length (q .old .working) (q .old .len) (act v x s a .working) (ap (λ (r : BareRun). r .working) e) hw;
+            emitted = held-length (q .old .list) (q .old .emitted) (act v x s a .list) (ap (λ (r : BareRun). r .list) e) hl;
+            told = w s s′ h;
+            listed = l s s′ h;
+          }
+
+  -- ---- the working lists: one bucket, the same in both; a select's places are below
+
+  pub worked-take : (b : ℕ) (cs : List ℕ) → getD cs 0 0 ≡ 0 → Worked v v′ x p (Take b) cs
+  unfolding Worked act taken
+  worked-take b cs e s s′ h = record { same = refl; each = one }
+    where
+      one : (j : ℕ) → j < 1 → Told (getD cs j 0) (getD (taken b) j nowhere) (getD (taken b) j nowhere)
+      one zero l = inl (refl, e)
       one (suc j) l = absurd (omega arith)
 
-  -- ---- emit
+  pub worked-emit : Worked v v′ x p Emit (p .causes)
+  unfolding Worked act
+  worked-emit s s′ h = h .told
+
+  pub worked-idle : Worked v v′ x p Idle (p .causes)
+  unfolding Worked act
+  worked-idle s s′ h = h .told
+
+  -- ---- the lists
+
+  pub listed-take : (b : ℕ) → Listed v v′ x p (Take b) (p .list)
+  unfolding Listed act
+  listed-take b s s′ h = h .listed
+
+  pub listed-select : (a : Action) (mode : Mode) (n t : ℕ) → a ≡ Select mode n t → Listed v v′ x p a (p .list)
+  unfolding Listed act selected
+  listed-select a mode n t e s s′ h = rw e (h .listed)
+
+  pub listed-idle : Listed v v′ x p Idle (p .list)
+  unfolding Listed act
+  listed-idle s s′ h = h .listed
 
   -- the causes of two lists one behind the other
-  append-causes : (list′ : List ℕ) (ps ps′ ws ws′ : List Place) → length ps ≡ p .emitted → length ws ≡ p .len
-      → p .len ≤ length (p .causes) → p .emitted ≤ length (p .list)
-      → take (p .emitted + p .len) list′ ≡ take (p .emitted) (p .list) ++ take (p .len) (p .causes)
+  append-causes : (list′ : List ℕ) (ps ps′ ws ws′ : List Place) → length ps ≡ p .old .emitted → length ws ≡ p .old .len
+      → p .old .len ≤ length (p .causes) → p .old .emitted ≤ length (p .list)
+      → take (p .old .emitted + p .old .len) list′ ≡ take (p .old .emitted) (p .list) ++ take (p .old .len) (p .causes)
       → Causes (p .list) ps ps′ → Causes (p .causes) ws ws′ → Causes list′ (ps ++ ws) (ps′ ++ ws′)
   append-causes list′ ps ps′ ws ws′ lp lw hc hl e c d =
       record { same = length-append ps′ ws′ ∙ omega (arith, length-append ps ws, c .same, d .same); each = at }
     where
       F : List ℕ
-      F = take (p .emitted) (p .list)
+      F = take (p .old .emitted) (p .list)
 
       B : List ℕ
-      B = take (p .len) (p .causes)
+      B = take (p .old .len) (p .causes)
 
-      read : (i : ℕ) → i < p .emitted + p .len → getD list′ i 0 ≡ getD (F ++ B) i 0
-      read i h = sym (getD-take (p .emitted + p .len) list′ i 0 h) ∙ ap (λ (l : List ℕ). getD l i 0) e
+      read : (i : ℕ) → i < p .old .emitted + p .old .len → getD list′ i 0 ≡ getD (F ++ B) i 0
+      read i h = sym (getD-take (p .old .emitted + p .old .len) list′ i 0 h) ∙ ap (λ (l : List ℕ). getD l i 0) e
 
-      long : length F ≡ p .emitted
-      long = length-take-le (p .emitted) (p .list) hl
+      long : length F ≡ p .old .emitted
+      long = length-take-le (p .old .emitted) (p .list) hl
 
       front : (i : ℕ) → i < length ps → Told (getD list′ i 0) (getD (ps ++ ws) i nowhere) (getD (ps′ ++ ws′) i nowhere)
       front i h =
-          let r : getD list′ i 0 ≡ getD (p .list) i 0 = read i (omega arith) ∙ List·getD-append F B 0 i (omega (arith, long)) ∙ getD-take (p .emitted) (p .list) i 0 (omega arith) in
+          let r : getD list′ i 0 ≡ getD (p .list) i 0 = read i (omega arith) ∙ List·getD-append F B 0 i (omega (arith, long)) ∙ getD-take (p .old .emitted) (p .list) i 0 (omega arith) in
           rw (r, List·getD-append ps ws nowhere i h, List·getD-append ps′ ws′ nowhere i (omega (arith, c .same))) (c .each i h)
 
-      back : (j : ℕ) → j < length ws → Told (getD list′ (p .emitted + j) 0) (getD (ps ++ ws) (p .emitted + j) nowhere) (getD (ps′ ++ ws′) (p .emitted + j) nowhere)
+      back : (j : ℕ) → j < length ws → Told (getD list′ (p .old .emitted + j) 0) (getD (ps ++ ws) (p .old .emitted + j) nowhere) (getD (ps′ ++ ws′) (p .old .emitted + j) nowhere)
       back j h =
-          let r : getD list′ (p .emitted + j) 0 ≡ getD (p .causes) j 0 = read (p .emitted + j) (omega arith) ∙ ap (λ (k : ℕ). getD (F ++ B) (k + j) 0) (sym long) ∙ getD-append-add F B j 0 ∙ getD-take (p .len) (p .causes) j 0 (omega arith) in
-          let q : getD (ps ++ ws) (p .emitted + j) nowhere ≡ getD ws j nowhere = ap (λ (k : ℕ). getD (ps ++ ws) (k + j) nowhere) (sym lp) ∙ getD-append-add ps ws j nowhere in
-          let q′ : getD (ps′ ++ ws′) (p .emitted + j) nowhere ≡ getD ws′ j nowhere = ap (λ (k : ℕ). getD (ps′ ++ ws′) (k + j) nowhere) (sym (c .same ∙ lp)) ∙ getD-append-add ps′ ws′ j nowhere in
+          let r : getD list′ (p .old .emitted + j) 0 ≡ getD (p .causes) j 0 = read (p .old .emitted + j) (omega arith) ∙ ap (λ (k : ℕ). getD (F ++ B) (k + j) 0) (sym long) ∙ getD-append-add F B j 0 ∙ getD-take (p .old .len) (p .causes) j 0 (omega arith) in
+          let q : getD (ps ++ ws) (p .old .emitted + j) nowhere ≡ getD ws j nowhere = ap (λ (k : ℕ). getD (ps ++ ws) (k + j) nowhere) (sym lp) ∙ getD-append-add ps ws j nowhere in
+          let q′ : getD (ps′ ++ ws′) (p .old .emitted + j) nowhere ≡ getD ws′ j nowhere = ap (λ (k : ℕ). getD (ps′ ++ ws′) (k + j) nowhere) (sym (c .same ∙ lp)) ∙ getD-append-add ps′ ws′ j nowhere in
           rw (r, q, q′) (d .each j h)
 
       at : (i : ℕ) → i < length (ps ++ ws) → Told (getD list′ i 0) (getD (ps ++ ws) i nowhere) (getD (ps′ ++ ws′) i nowhere)
@@ -157,33 +205,21 @@ module _ (v v′ : View) (x : ℕ) (p : Both) where
           go : Dec (i < length ps) → Told (getD list′ i 0) (getD (ps ++ ws) i nowhere) (getD (ps′ ++ ws′) i nowhere)
           go (yes l) = front i l
           go (no l) =
-              let k : p .emitted + (i - p .emitted) ≡ i = omega arith in
-              subst (λ (z : ℕ). Told (getD list′ z 0) (getD (ps ++ ws) z nowhere) (getD (ps′ ++ ws′) z nowhere)) k (back (i - p .emitted) (omega (arith, length-append ps ws)))
+              let k : p .old .emitted + (i - p .old .emitted) ≡ i = omega arith in
+              subst (λ (z : ℕ). Told (getD list′ z 0) (getD (ps ++ ws) z nowhere) (getD (ps′ ++ ws′) z nowhere)) k (back (i - p .old .emitted) (omega (arith, length-append ps ws)))
 
-  pub leads-emit : (list′ : List ℕ) (j : ℕ) → j ≡ p .len → p .len ≤ length (p .causes) → p .emitted ≤ length (p .list)
-      → list′ ≡ paste (p .list) (p .emitted) (p .causes) j
-      → Leads v v′ x p Emit (record { old = p .old; new = p .new; causes = p .causes; len = p .len; list = list′; emitted = p .emitted + p .len })
-  unfolding Leads act
-  leads-emit list′ j e hc hl q s s′ h =
-      let t : take (p .emitted + p .len) list′ ≡ take (p .emitted) (p .list) ++ take (p .len) (p .causes) = ap (take (p .emitted + p .len)) (q ∙ ap (λ (k : ℕ). paste (p .list) (p .emitted) (p .causes) k) e)
-      ∙ take-paste (p .list) (p .emitted) (p .causes) (p .len) hl hc in
-      record {
-        old = h .old;
-        new = h .new;
-        len = h .len;
-        told = h .told;
-        emitted = length-append (s .list) (s .working) ∙ omega (arith, h .emitted, h .len);
-        listed = append-causes list′ (s .list) (s′ .list) (s .working) (s′ .working) (h .emitted) (h .len) hc hl t (h .listed) (h .told);
-      }
+  pub listed-emit : (cs : List ℕ) → p .old .len ≤ length (p .causes) → p .old .emitted ≤ length (p .list)
+      → cs ≡ paste (p .list) (p .old .emitted) (p .causes) (p .old .len) → Listed v v′ x p Emit cs
+  unfolding Listed act
+  listed-emit cs hc hl e s s′ h =
+      append-causes cs (s .list) (s′ .list) (s .working) (s′ .working) (h .emitted) (h .len) hc hl
+      (ap (take (p .old .emitted + p .old .len)) e ∙ take-paste (p .list) (p .old .emitted) (p .causes) (p .old .len) hl hc) (h .listed) (h .told)
 
-  -- ---- select
-
-  -- c and c′ are an independent select in both runs, and cs the causes of its places
-  module _ (n t : ℕ) (c c′ : Chosen) (cs : List ℕ) (within : p .len ≤ length (p .old))
-      (e : bareIn c ≡ bareSelect v x Independent n t (take (p .len) (p .old)))
-      (e′ : bareIn c′ ≡ bareSelect v′ x Independent n t (take (p .len) (p .new)))
-      (room : c .len ≤ length (c .entries)) (room′ : c′ .len ≤ length (c′ .entries))
-      (tells : TellsTo v v′ x n t (c .entries) (c′ .entries) (p .causes) (p .old) (c .len) cs) where
+  -- ---- a select: o and o′ are where an independent one leads both runs, and cs the causes of its places
+  module _ (n t : ℕ) (o o′ : Progress) (cs : List ℕ) (within : p .old .len ≤ length (p .old .working))
+      (e : Acted v x (p .old) (Select Independent n t) o) (e′ : Acted v′ x (p .new) (Select Independent n t) o′)
+      (room : o .len ≤ length (o .working)) (room′ : o′ .len ≤ length (o′ .working))
+      (tells : TellsTo v v′ x n t (o .working) (o′ .working) (p .causes) (p .old .working) (o .len) cs) where
     module _ (s s′ : Run) (h : Beside s s′ p) where
       abbrev P : List Place
       P = selectOf v x Independent n t (s .working) .places
@@ -191,33 +227,35 @@ module _ (v v′ : View) (x : ℕ) (p : Both) where
       abbrev P′ : List Place
       P′ = selectOf v′ x Independent n t (s′ .working) .places
 
-      olds : take (c .len) (c .entries) ≡ entriesOf P
-      olds = ap (λ (b : Bare). b .entries) (e ∙ ap (bareSelect v x Independent n t) (h .old) ∙ sym (select-bare v x Independent n t (s .working)))
+      olds : take (o .len) (o .working) ≡ entriesOf P
+      unfolding act selected
+      olds = ap (λ (r : BareRun). r .working) (acted-run v x (p .old) o (Select Independent n t) s (h .old) e)
 
-      news : take (c′ .len) (c′ .entries) ≡ entriesOf P′
-      news = ap (λ (b : Bare). b .entries) (e′ ∙ ap (bareSelect v′ x Independent n t) (h .new) ∙ sym (select-bare v′ x Independent n t (s′ .working)))
+      news : take (o′ .len) (o′ .working) ≡ entriesOf P′
+      unfolding act selected
+      news = ap (λ (r : BareRun). r .working) (acted-run v′ x (p .new) o′ (Select Independent n t) s′ (h .new) e′)
 
-      long : length P ≡ c .len
-      long = sym (length-entries P) ∙ ap (λ (l : List ℕ). length l) (sym olds) ∙ length-take-le (c .len) (c .entries) room
+      long : length P ≡ o .len
+      long = held-length (o .working) (o .len) P olds room
 
-      long′ : length P′ ≡ c′ .len
-      long′ = sym (length-entries P′) ∙ ap (λ (l : List ℕ). length l) (sym news) ∙ length-take-le (c′ .len) (c′ .entries) room′
+      long′ : length P′ ≡ o′ .len
+      long′ = held-length (o′ .working) (o′ .len) P′ news room′
 
       alike : length P′ ≡ length P
       alike = select-count v′ x n t (s′ .working) ∙ ap (λ (k : ℕ). k * n) (h .told .same) ∙ sym (select-count v x n t (s .working))
 
       place : (i : ℕ) → i < length P
-          → getD P i nowhere ≡ placeUnder (getD (s .working) (i / n) nowhere) (rankUnder v x n t (take i (c .entries)) (getD (s .working) (i / n) nowhere) (i % n + 1))
+          → getD P i nowhere ≡ placeUnder (getD (s .working) (i / n) nowhere) (rankUnder v x n t (take i (o .working)) (getD (s .working) (i / n) nowhere) (i % n + 1))
       unfolding placeAfter
       place i l =
-          let f = held-front (c .entries) (c .len) P i olds (omega (arith, long)) in
+          let f = held-front (o .working) (o .len) P i olds (omega (arith, long)) in
           rw (← f) (select-place v x n t (s .working) i (omega (arith, select-count v x n t (s .working))))
 
       place′ : (i : ℕ) → i < length P
-          → getD P′ i nowhere ≡ placeUnder (getD (s′ .working) (i / n) nowhere) (rankUnder v′ x n t (take i (c′ .entries)) (getD (s′ .working) (i / n) nowhere) (i % n + 1))
+          → getD P′ i nowhere ≡ placeUnder (getD (s′ .working) (i / n) nowhere) (rankUnder v′ x n t (take i (o′ .working)) (getD (s′ .working) (i / n) nowhere) (i % n + 1))
       unfolding placeAfter
       place′ i l =
-          let f = held-front (c′ .entries) (c′ .len) P′ i news (omega (arith, long′, alike)) in
+          let f = held-front (o′ .working) (o′ .len) P′ i news (omega (arith, long′, alike)) in
           rw (← f) (select-place v′ x n t (s′ .working) i (omega (arith, select-count v′ x n t (s′ .working), alike)))
 
       each : (i : ℕ) → i < length P → Told (getD cs i 0) (getD P i nowhere) (getD P′ i nowhere)
@@ -226,132 +264,65 @@ module _ (v v′ : View) (x : ℕ) (p : Both) where
           let d : i / n < length (s .working) = div-below i n (length (s .working)) (omega (arith, select-count v x n t (s .working))) in
           rw (place i l, place′ i l)
           (tells i (omega (arith, long)) (getD (s .working) (i / n) nowhere) (getD (s′ .working) (i / n) nowhere) (h .told .each (i / n) d)
-          (held-entry (p .old) (p .len) (s .working) (i / n) (h .old) (omega (arith, h .len)) (omega (arith, h .len))))
+          (held-entry (p .old .working) (p .old .len) (s .working) (i / n) (ap (λ (r : BareRun). r .working) (h .old)) (omega (arith, h .len)) (omega (arith, h .len))))
 
-      both-selected : Beside (selected s (selectOf v x Independent n t (s .working))) (selected s′ (selectOf v′ x Independent n t (s′ .working)))
-          (record { old = c .entries; new = c′ .entries; causes = cs; len = c .len; list = p .list; emitted = p .emitted })
-      unfolding selected
-      both-selected =
-          let z : c .len ≡ c′ .len = omega (arith, long, long′, alike) in
-          record {
-            old = olds;
-            new = ap (λ (k : ℕ). take k (c′ .entries)) z ∙ news;
-            len = long;
-            told = record { same = alike; each = each };
-            emitted = h .emitted;
-            listed = h .listed;
-          }
+    pub worked-select : Worked v v′ x p (Select Independent n t) cs
+    unfolding Worked act selected
+    worked-select s s′ h = record { same = alike s s′ h; each = each s s′ h }
 
-    pub leads-select : Leads v v′ x p (Select Independent n t)
-        (record { old = c .entries; new = c′ .entries; causes = cs; len = c .len; list = p .list; emitted = p .emitted })
-    unfolding Leads act
-    leads-select = both-selected
+  pub worked-mode : (mode : Mode) (n t : ℕ) (o o′ : Progress) (cs : List ℕ) → mode ≡ Independent → p .old .len ≤ length (p .old .working)
+      → Acted v x (p .old) (Select mode n t) o → Acted v′ x (p .new) (Select mode n t) o′ → o .len ≤ length (o .working) → o′ .len ≤ length (o′ .working)
+      → TellsTo v v′ x n t (o .working) (o′ .working) (p .causes) (p .old .working) (o .len) cs → Worked v v′ x p (Select mode n t) cs
+  worked-mode mode n t o o′ cs i w e e′ r r′ tells = rw i (worked-select n t o o′ cs w (rw i at e) (rw i at e′) r r′ tells)
 
 -- ---- a loop over the steps
 
--- the lengths of the lists of a run go by the actions alone
-module _ (v v′ : View) (x : ℕ) (actions : List Action) (independent : every notFirstN actions ≡ true) where
-  abbrev R : ℕ → Run
-  R = runTo v x actions
+-- p is where the first k actions lead both runs
+pub record Reached (v v′ : View) (x : ℕ) (actions : List Action) (k : ℕ) (p : Both) : Type 0 where
+  pub old : Ran v x actions k (p .old)
+  pub new : Ran v′ x actions k (p .new)
+  pub beside : Beside (runTo v x actions k) (runTo v′ x actions k) p
 
-  -- how far one action leads at most
-  act-lengths : (s : Run) (a : Action) (p e : ℕ) → notFirstN a ≡ true → length (s .working) ≤ p → length (s .list) ≤ e
-      → (length (act v x s a .working) ≤ productAfter p a) × (length (act v x s a .list) ≤ e + addedBy p a)
-  unfolding act taken selected productAfter addedBy notFirstN
-  act-lengths s (Take b) p e i h l = (omega arith, omega arith)
-  act-lengths s (Select Independent n t) p e i h l = (omega (arith, select-count v x n t (s .working), mul-le-mul-right n h), omega arith)
-  act-lengths s (Select FirstN n t) p e i h l = absurd (false≢true i)
-  act-lengths s Emit p e i h l = (h, omega (arith, length-append (s .list) (s .working)))
-  act-lengths s Idle p e i h l = (h, omega arith)
-
-  run-lengths : (k : ℕ) → k ≤ length actions → (length (R k .working) ≤ productTo actions k) × (length (R k .list) ≤ emittedTo actions k)
-  unfolding runTo productTo emittedTo
-  run-lengths zero h = (omega arith, omega arith)
-  run-lengths (suc k) h =
-      let r = run-lengths k (omega arith) in
-      act-lengths (R k) (getD actions k Idle) (productTo actions k) (emittedTo actions k) (every-at notFirstN actions k Idle independent (omega arith)) (r .0) (r .1)
-
-  -- both runs have as many places: in the working list, and in the list
-  act-same : (s s′ : Run) (a : Action) → notFirstN a ≡ true → length (s′ .working) ≡ length (s .working) → length (s′ .list) ≡ length (s .list)
-      → (length (act v′ x s′ a .working) ≡ length (act v x s a .working)) × (length (act v′ x s′ a .list) ≡ length (act v x s a .list))
-  unfolding act taken selected notFirstN
-  act-same s s′ (Take b) i h l = (refl, l)
-  act-same s s′ (Select Independent n t) i h l =
-      (select-count v′ x n t (s′ .working) ∙ ap (λ (k : ℕ). k * n) h ∙ sym (select-count v x n t (s .working)), l)
-  act-same s s′ (Select FirstN n t) i h l = absurd (false≢true i)
-  act-same s s′ Emit i h l = (h, length-append (s′ .list) (s′ .working) ∙ omega (arith, length-append (s .list) (s .working)))
-  act-same s s′ Idle i h l = (h, l)
-
-  pub lengths-same : (k : ℕ) → k ≤ length actions
-      → (length (runTo v′ x actions k .working) ≡ length (R k .working)) × (length (runTo v′ x actions k .list) ≡ length (R k .list))
+module _ (v v′ : View) (x : ℕ) (actions : List Action) where
+  pub reached-start : (q q′ : Progress) (cs ls : List ℕ) → Ran v x actions 0 q → Ran v′ x actions 0 q′ → q .len ≡ 0 → q .emitted ≡ 0
+      → Reached v v′ x actions 0 (record { old = q; new = q′; causes = cs; list = ls })
   unfolding runTo
-  lengths-same zero h = (refl, refl)
-  lengths-same (suc k) h =
-      let r = lengths-same k (omega arith) in
-      act-same (R k) (runTo v′ x actions k) (getD actions k Idle) (every-at notFirstN actions k Idle independent (omega arith)) (r .0) (r .1)
-
-  -- both runs, one step more
-  pub both-start : (os ns cs ls : List ℕ) → Beside (R 0) (runTo v′ x actions 0) (record { old = os; new = ns; causes = cs; len = 0; list = ls; emitted = 0 })
-  unfolding runTo entriesOf
-  both-start os ns cs ls =
+  reached-start q q′ cs ls r r′ z y =
       record {
-        old = refl;
-        new = refl;
-        len = refl;
-        told = record { same = refl; each = λ i h. absurd (omega arith) };
-        emitted = refl;
-        listed = record { same = refl; each = λ i h. absurd (omega arith) };
+        old = r;
+        new = r′;
+        beside =
+            record {
+              old = r .is ∙ sym (run-bare v x actions 0);
+              new = r′ .is ∙ sym (run-bare v′ x actions 0);
+              len = sym z;
+              emitted = sym y;
+              told = record { same = refl; each = λ i h. absurd (omega arith) };
+              listed = record { same = refl; each = λ i h. absurd (omega arith) };
+            };
       }
 
-  pub both-more : (k : ℕ) (p q : Both) (a : Action) → a ≡ getD actions k Idle → Beside (R k) (runTo v′ x actions k) p → Leads v v′ x p a q
-      → Beside (R (k + 1)) (runTo v′ x actions (k + 1)) q
-  unfolding runTo Leads
-  both-more k p q a e h l = rw (add-one k, ← e) (l (R k) (runTo v′ x actions k) h)
+  pub reached-more : (k : ℕ) (p q : Both) (a : Action) → a ≡ getD actions k Idle → Reached v v′ x actions k p → Leads v v′ x p a q
+      → Reached v v′ x actions (k + 1) q
+  unfolding runTo
+  reached-more k p q a e h l =
+      record {
+        old = ran-more v x actions k (p .old) (q .old) a e (h .old) (l .old);
+        new = ran-more v′ x actions k (p .new) (q .new) a e (h .new) (l .new);
+        beside = rw (add-one k, ← e) (l .beside (runTo v x actions k) (runTo v′ x actions k) (h .beside));
+      }
 
   -- the causes of the list
-  pub both-causes : (k : ℕ) (p : Both) → Beside (R k) (runTo v′ x actions k) p → (j : ℕ) → j < length (R k .list)
-      → getD (p .list) j 0 ≡ causeOf (parting (getD (R k .list) j nowhere .walk) (getD (runTo v′ x actions k .list) j nowhere .walk))
-  both-causes k p h j l = told-is _ _ _ (h .listed .each j l)
-
--- a product that the rule keeps to has room
-product-room : (types : List ℕ) (actions : List Action) → Ruled types actions → (k : ℕ) → k ≤ length actions → productTo actions k ≤ 16
-unfolding productTo productAfter
-product-room types actions r zero h = omega arith
-product-room types actions r (suc k) h = go (getD actions k Idle) (r .keeps k (omega arith)) (product-room types actions r k (omega arith))
-  where
-    go : (a : Action) → Keeps types (productTo actions k) (emittedTo actions k) (reachedTo types actions k) a → productTo actions k ≤ 16 → productAfter (productTo actions k) a ≤ 16
-    go (Take b) q l = omega arith
-    go (Select mode n t) q l = q .2
-    go Emit q l = l
-    go Idle q l = l
+  pub reached-causes : (k : ℕ) (p : Both) → Reached v v′ x actions k p → (j : ℕ) → j < length (runTo v x actions k .list)
+      → getD (p .list) j 0 ≡ causeOf (parting (getD (runTo v x actions k .list) j nowhere .walk) (getD (runTo v′ x actions k .list) j nowhere .walk))
+  reached-causes k p h j l = told-is _ _ _ (h .beside .listed .each j l)
 
 -- where the rule is kept to, the next action can be done in both runs
-module _ {seed : ℕ} {first count types items weights weights′ acceptance acceptance′ : List ℕ} {actions : List Action}
-    (ready : Ready seed first count types items weights acceptance actions) (ready′ : Ready seed first count types items weights′ acceptance′ actions)
-    (independent : every notFirstN actions ≡ true) (x : ℕ) where
-  abbrev v : View
-  v = viewFrom seed first count types items weights acceptance
-
-  abbrev v′ : View
-  v′ = viewFrom seed first count types items weights′ acceptance′
-
-  pub able : (k : ℕ) (p : Both) (a : Action) → k < length actions → a ≡ getD actions k Idle → Beside (runTo v x actions k) (runTo v′ x actions k) p → Able p a
-  unfolding notFirstN
-  able k p a h e b = go a (rw (← e) at (ready .ruled .keeps k h)) (rw (← e) at (every-at notFirstN actions k Idle independent h))
-    where
-      most : (length (runTo v x actions k .working) ≤ productTo actions k) × (length (runTo v x actions k .list) ≤ emittedTo actions k)
-      most = run-lengths v v′ x actions independent k (omega arith)
-
-      go : (z : Action) → Keeps types (productTo actions k) (emittedTo actions k) (reachedTo types actions k) z → notFirstN z ≡ true → Able p z
-      go (Take c) q i = q .0
-      go (Select FirstN n t) q i = absurd (false≢true i)
-      go (Select Independent n t) q i = (
-        refl,
-        q .0,
-        q .1,
-        rw (← b .len) (omega (arith, mul-le-mul-right n (most .0), q .2)),
-        subst (Each Workable) (sym (b .old ∙ ap (λ (r : BareRun). r .working) (run-bare v x actions k))) (working-workable ready x k (bareRunTo v x actions k) (omega arith) refl (q .3)),
-        subst (Each Workable) (sym (b .new ∙ ap (λ (r : BareRun). r .working) (run-bare v′ x actions k))) (working-workable ready′ x k (bareRunTo v′ x actions k) (omega arith) refl (q .3)),
-      )
-      go Emit q i = (omega (arith, b .len, most .0, product-room types actions (ready .ruled) k (omega arith)), omega (arith, b .len, b .emitted, most .0, most .1, q .0))
-      go Idle q i = tt
+pub able : {plan values values′ : List ℕ} {actions : List Action} → Ready plan values actions → Ready plan values′ actions
+    → every notFirstN actions ≡ true → (x k : ℕ) (p : Both) (a : Action) → k < length actions → k ≤ 16 → a ≡ getD actions k Idle
+    → Reached (viewIn plan values) (viewIn plan values′) x actions k p → Able p a
+able {actions = actions} ready ready′ independent x k p a h m e r = (
+  (r .old .room, omega (arith, r .old .tries), doable ready x k (p .old) a h e (r .old)),
+  (r .new .room, omega (arith, r .new .tries), doable ready′ x k (p .new) a h e (r .new)),
+  rw e (every-at notFirstN actions k Idle independent h),
+)

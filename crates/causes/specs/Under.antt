@@ -10,6 +10,7 @@ use borrow.Author.Tests.{eq-eqb, ne-eqb}
 use lib.Dec.{eqb}
 use lib.ListN.{length, getD, take, set}
 use lib.Seq.{getD-set-same, getD-set-other}
+use Rattle.definitions.specs.declared.Mode.{Mode}
 use Rattle.definitions.specs.declared.Mode.the-variants.{Independent}
 use Rattle.definitions.specs.declared.Parting.{Parting}
 use Rattle.definitions.specs.declared.Parting.the-variants.{Same, Draw, Test}
@@ -68,14 +69,15 @@ module _ (v v′ : View) (x n t : ℕ) where
         inl (rw (← s, u) refl, refl)
 
     -- the two ranks under one bucket
-    pub tells-rank : ((i : ℕ) → v .type i ≡ v′ .type i) → above ≡ 0 → (e ≡ hole → ⊥) → (p : Parting)
-        → p ≡ parting (rankOf v x Independent n t entries (bucketNumber e) r 0 .events) (rankOf v′ x Independent n t entries′ (bucketNumber e) r 0 .events)
+    pub tells-rank : ((i : ℕ) → v .type i ≡ v′ .type i) → above ≡ 0 → (e ≡ hole → ⊥) → (mode : Mode) (start : ℕ) (p : Parting)
+        → mode ≡ Independent → start ≡ bucketNumber e
+        → p ≡ parting (rankOf v x mode n t entries start r 0 .events) (rankOf v′ x mode n t entries′ start r 0 .events)
         → Tells (causeOf p)
     unfolding TellsUnder rankUnder placeUnder
-    tells-rank types z h p f a b told q =
+    tells-rank types z h mode start p i g f a b told q =
         let s = told-same above a b told z in
-        let u : eqb (a .entry) hole ≡ false = ne-eqb (a .entry) hole (λ g. h (sym q ∙ g)) in
-        rw (← s, u, q) (ranks-told types entries entries′ (bucketNumber e) r a p f)
+        let u : eqb (a .entry) hole ≡ false = ne-eqb (a .entry) hole (λ k. h (sym q ∙ k)) in
+        rw (← s, u, q) (ranks-told types entries entries′ (bucketNumber e) r a p (rw (i, g) at f))
 
   -- ---- a loop over the places
 

@@ -5,7 +5,7 @@ use mathlib.Core.List.{List, [], _∷_, map, List·Memᴰ, List·Memᴰ·head}
 use Prim.Native.Nat.{ℕ, zero, suc, _+_, _<_, _≤_}
 use native.Mathlib.Omega.{arith}
 use lib.Dec.{leb, eqb}
-use lib.ListN.{length, getD, take, drop, length-take, length-drop, length-map}
+use lib.ListN.{length, getD, take, drop, length-take, length-drop}
 use lib.Seq.{getD-take, getD-drop}
 use borrow.Author.Tests.{leb-true, le-leb}
 use Rattle.definitions.specs.declared.Bucket.{Bucket}
@@ -22,30 +22,50 @@ use Rattle.laws.specs.Counting.{number-at}
 use Rattle.laws.specs.Members.{mem-every, mem-at, map-ext}
 use Rattle.laws.specs.Loadable.{Loadable, ranged-is, bucket-ranged, present-is, put-children, put-bucket-type}
 use Rattle.text.specs.Records.{noBucket}
-use Rattle.hierarchy.specs.Arrays.{partOf, typeIn, viewFrom, Sound}
+use Rattle.hierarchy.specs.Arrays.{firstsIn, countsIn, typesIn, seedIn, firstIn, countIn, childrenIn, partAt, partOf, childIn, typeIn, acceptancesIn, viewIn, Sound}
 use Rattle.compile.specs.Tables.{Tabled}
 use Rattle.compile.specs.Links.{Arranged}
-use Rattle.compile.specs.Weights.{itemIn, arrays, upTo, greatest, at-most}
-use Rattle.compile.specs.Weighing.{child-of, known, item-weight}
+use Rattle.compile.specs.Weights.{itemIn}
+use Rattle.compile.specs.Weighing.{child-of, bucketWeight, item-is}
+
+-- the plan of a map
+pub record Planned (m : Map) (plan : List ℕ) : Type 0 where
+  pub arranged : Arranged m (firstsIn plan) (countsIn plan) (childrenIn plan)
+  pub typed : Tabled (typesIn plan) 256 (bucketType m)
+  pub seeded : seedIn plan ≡ S
+
+-- arrays that are the map's, laid into the plan
+pub planned-of : (m : Map) (plan : List ℕ) {first count items types : List ℕ} → Arranged m first count items → Tabled types 256 (bucketType m)
+    → firstsIn plan ≡ first → countsIn plan ≡ count → typesIn plan ≡ types → childrenIn plan ≡ items → seedIn plan ≡ S → Planned m plan
+planned-of m plan a t f k y i s = record { arranged = rw (f, k, i) a; typed = rw y t; seeded = s }
+
+-- a map that load takes, its plan, and the weights of its devices by number: all that the weights of buckets and children come of
+pub record Weighs (m : Map) (plan own : List ℕ) : Type 0 where
+  pub loadable : Loadable m
+  pub planned : Planned m plan
+  pub owned : Tabled own 1024 (deviceWeight m)
 
 -- ---- what an edit leaves as it is
 
 module _ (m : Map) (c : Change) where
-  -- the children
-  pub put-arranged : {first count items : List ℕ} → Arranged m first count items → Arranged (put m c) first count items
-  put-arranged a =
+  -- the children, the types and the seed
+  pub put-planned : {plan : List ℕ} → Planned m plan → Planned (put m c) plan
+  put-planned k =
+      let a = k .arranged in
+      let t = k .typed in
       record {
-        firsts = a .firsts;
-        counts = a .counts;
-        long = a .long;
-        within = a .within;
-        children = λ b. a .children b ∙ sym (put-children m c b);
-        ranged = a .ranged;
+        arranged =
+            record {
+              firsts = a .firsts;
+              counts = a .counts;
+              long = a .long;
+              within = a .within;
+              children = λ b. a .children b ∙ sym (put-children m c b);
+              ranged = a .ranged;
+            };
+        typed = record { size = t .size; at = λ b. t .at b ∙ sym (put-bucket-type m c b) };
+        seeded = k .seeded;
       }
-
-  -- the types
-  pub put-types : {types : List ℕ} → Tabled types 256 (bucketType m) → Tabled types 256 (bucketType (put m c))
-  put-types t = record { size = t .size; at = λ b. t .at b ∙ sym (put-bucket-type m c b) }
 
 -- ---- parts of a mapped list
 
@@ -98,73 +118,67 @@ module _ (m : Map) (L : Loadable m) where
 
 -- ---- the arrays of a map
 
-module _ (m : Map) (L : Loadable m) {first count items devices types acceptance loads weights : List ℕ} (A : Arranged m first count items)
-    (D : Tabled devices 1024 (deviceWeight m)) (T : Tabled types 256 (bucketType m)) (P : Tabled acceptance 1024 (acceptanceOf m))
-    (l : loads ≡ upTo (arrays first count items devices) types (greatest types)) (w : weights ≡ map (itemIn devices loads) items) where
+module _ (m : Map) (L : Loadable m) {plan : List ℕ} (K : Planned m plan) where
+  abbrev A : Arranged m (firstsIn plan) (countsIn plan) (childrenIn plan)
+  A = K .arranged
+
+  abbrev T : Tabled (typesIn plan) 256 (bucketType m)
+  T = K .typed
+
   -- the types of all items
-  types-are : (i : ℕ) → typeIn types i ≡ typeOf m i
+  types-are : (i : ℕ) → typeIn plan i ≡ typeOf m i
   unfolding typeOf typeBy
   types-are i = go (isBucket i)
     where
-      go : (t : Bool) → cond t (getD types (bucketNumber i) 0) 0 ≡ typeBy m i t
+      go : (t : Bool) → cond t (getD (typesIn plan) (bucketNumber i) 0) 0 ≡ typeBy m i t
       go true = T .at (bucketNumber i)
       go false = refl
 
-  -- a child has its weight
-  child-weight : (b c : ℕ) → List·Memᴰ c (childrenOf m b) → itemIn devices loads c ≡ weightOf m c
-  child-weight b c q =
-      let d = child-of m L b c q in
-      rw l
-      (item-weight m L A D T (upTo (arrays first count items devices) types (greatest types)) (greatest types) 0 c
-      (known m L A D T (greatest types)) (d .ranged)
-      (omega (arith, d .falls, T .at b, at-most types b)))
-
-  -- and so have those of a bucket
-  weights-are : (b : ℕ) → partOf first count b weights ≡ weightsOf m b
-  unfolding weightsOf
-  weights-are b =
-      rw (w, drop-map (itemIn devices loads) (getD first b 0) items, take-map (itemIn devices loads) (getD count b 0) (drop (getD first b 0) items), A .children b)
-      (map-ext (itemIn devices loads) (weightOf m) (childrenOf m b) (child-weight b))
-
-  -- the view is the map's
-  pub view-is : viewFrom S first count types items weights acceptance ≡ viewOf m
-  unfolding viewOf
-  view-is =
-      λ i.
-      record {
-        seed = S;
-        children = λ b. A .children b i;
-        weights = λ b. weights-are b i;
-        type = λ x. types-are x i;
-        acceptance = λ d. P .at d i;
-      }
-
   -- a bucket's part has its children
-  count-is : (b : ℕ) → getD count b 0 ≡ length (childrenOf m b)
+  count-is : (b : ℕ) → countIn plan b ≡ length (childrenOf m b)
   count-is b =
-      let n : length (partOf first count b items) ≡ getD count b 0 = simp (length-take, length-drop) (omega (arith, A .within b, A .long)) in
+      let n : length (partOf plan b plan) ≡ countIn plan b = simp (length-take, length-drop) (omega (arith, A .within b, A .long)) in
       sym n ∙ ap (λ (cs : List ℕ). length cs) (A .children b)
 
-  child-at : (b j : ℕ) → j < getD count b 0 → List·Memᴰ (getD items (getD first b 0 + j) 0) (childrenOf m b)
+  child-at : (b j : ℕ) → j < countIn plan b → List·Memᴰ (childIn plan b j) (childrenOf m b)
   child-at b j h =
-      let e : getD (childrenOf m b) j 0 ≡ getD items (getD first b 0 + j) 0
+      let e : getD (childrenOf m b) j 0 ≡ childIn plan b j
       = ap (λ (cs : List ℕ). getD cs j 0) (sym (A .children b))
-      ∙ getD-take (getD count b 0) (drop (getD first b 0) items) j 0 h ∙ getD-drop (getD first b 0) items j 0 in
+      ∙ getD-take (countIn plan b) (drop (firstIn plan b) (childrenIn plan)) j 0 h ∙ getD-drop (firstIn plan b) (childrenIn plan) j 0 in
       subst (λ (c : ℕ). List·Memᴰ c (childrenOf m b)) e (mem-at 0 (childrenOf m b) j (omega (arith, count-is b)))
 
   -- and a draw reads inside them
-  pub sound-is : Sound first count types items weights
+  pub sound-is : Sound plan
   sound-is =
       record {
-        firsts = A .firsts;
-        counts = A .counts;
-        typed = T .size;
-        paired = ap (λ (ws : List ℕ). length ws) w ∙ length-map items (itemIn devices loads);
         inside = λ b h. omega (arith, A .within b, A .long);
         narrow = λ b h. omega (arith, count-is b, children-most m L b);
-        ranged = λ b j h n. A .ranged (getD first b 0 + j);
+        ranged = λ b j h n. A .ranged (firstIn plan b + j);
         falls = λ b j h n.
-            let c = getD items (getD first b 0 + j) 0 in
+            let c = childIn plan b j in
             omega (arith, child-of m L b c (child-at b j n) .falls, types-are c, T .at b);
         small = λ b h. omega (arith, T .at b, type-most m L b);
       }
+
+  -- the weights laid out for the children: a bucket's part has those of its children
+  pub weights-are : {own loads : List ℕ} → Tabled own 1024 (deviceWeight m) → Tabled loads 256 (bucketWeight m)
+      → (b : ℕ) → partAt (firstsIn plan) (countsIn plan) b (map (itemIn own loads) (childrenIn plan)) ≡ weightsOf m b
+  unfolding weightsOf
+  weights-are {own = own} {loads = loads} D W b =
+      rw (drop-map (itemIn own loads) (firstIn plan b) (childrenIn plan), take-map (itemIn own loads) (countIn plan b) (drop (firstIn plan b) (childrenIn plan)), A .children b)
+      (map-ext (itemIn own loads) (weightOf m) (childrenOf m b) (λ c q. item-is m L A D T W c (child-of m L b c q .ranged)))
+
+  -- with values in which they and the acceptances of the devices lie
+  module _ (values : List ℕ) (P : Tabled (acceptancesIn values) 1024 (acceptanceOf m)) (w : (b : ℕ) → partOf plan b values ≡ weightsOf m b) where
+    -- the view is the map's
+    pub view-is : viewIn plan values ≡ viewOf m
+    unfolding viewOf
+    view-is =
+        λ i.
+        record {
+          seed = K .seeded i;
+          children = λ b. A .children b i;
+          weights = λ b. w b i;
+          type = λ x. types-are x i;
+          acceptance = λ d. P .at d i;
+        }

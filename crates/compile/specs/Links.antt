@@ -17,7 +17,7 @@ use Rattle.definitions.specs.Load.{linkRanged, linkBelow}
 use Rattle.laws.specs.Lists.{both, every-at, linked-head, linked-tail, linked-rest}
 use Rattle.laws.specs.Loadable.{Loadable, ranged-is, rising-is, link-ranged, ChildRanged, bounds}
 use Rattle.text.specs.Records.{noLink}
-use Rattle.hierarchy.specs.Arrays.{partOf, ItemRange}
+use Rattle.hierarchy.specs.Arrays.{partAt, ItemRange}
 use Rattle.compile.specs.Tables.{Tabled, stored, getD-set, blank}
 
 -- ---- where a bucket's links stand
@@ -133,7 +133,7 @@ pub record Arranged (m : Map) (first count items : List ℕ) : Type 0 where
   pub counts : length count ≡ 256
   pub long : length items ≡ 1280
   pub within : (b : ℕ) → getD first b 0 + getD count b 0 ≤ 1280
-  pub children : (b : ℕ) → partOf first count b items ≡ childrenOf m b
+  pub children : (b : ℕ) → partAt first count b items ≡ childrenOf m b
   pub ranged : (i : ℕ) → ItemRange (getD items i 0)
 
 -- the same of the links from the k-th on

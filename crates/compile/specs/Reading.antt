@@ -36,22 +36,6 @@ pub record Readable (t : List ℕ) (s : Shape) (m : Map) : Type 0 where
 pub readable : (t : List ℕ) (s : Shape) (m : Map) → loadNumber t ≡ 0 → s ≡ shapeOf (framesIn t) → Loadable m → Readable t s m
 readable t s m e q l = record { framed = loaded t e .framed; shape = q; loadable = l }
 
--- its own map is one
-pub loadable-of : (t : List ℕ) → loadNumber t ≡ 0 → Loadable (mapOf t)
-loadable-of t e =
-    let h = loaded t e in
-    record {
-      ranged = h .ranged;
-      rising = h .rising;
-      present = h .present;
-      once = h .once;
-      falling = h .falling;
-      narrow = h .narrow;
-      inBlocks = h .inBlocks;
-      slim = h .slim;
-      light = h .light;
-    }
-
 -- Malformed is no edit
 pub no-edit : (m : Map) → put m Malformed ≡ m
 unfolding put

@@ -3,12 +3,12 @@ use mathlib.Core.Path.{_≡_, refl, sym, ap, _∙_}
 use mathlib.Core.Bool.{Bool, true, false, cond}
 use mathlib.Core.Logic.{inl, inr}
 use mathlib.Core.List.{List, [], _∷_, map, List·Memᴰ, List·Memᴰ·head}
-use Prim.Native.Nat.{ℕ, zero, suc, _+_, _-_, _<_, _≤_}
+use Prim.Native.Nat.{ℕ, zero, suc, _+_, _<_, _≤_}
 use native.Mathlib.Omega.{arith}
 use native.Mathlib.Numerals.{add-one}
-use lib.Dec.{eqb}
-use lib.ListN.{length, getD, set, replicate, length-set}
-use borrow.Author.Tests.{eqb-true, eqb-false}
+use lib.Dec.{ltb, eqb}
+use lib.ListN.{length, getD, set, replicate, length-set, List·getD-eq-default}
+use borrow.Author.Tests.{ltb-true, ltb-false, eqb-true, eqb-false}
 use Rattle.definitions.specs.declared.Link.{Link}
 use Rattle.definitions.specs.Lists.{sum}
 use Rattle.definitions.specs.Map.{Map, bucketItem, bucketNumber}
@@ -19,7 +19,7 @@ use Rattle.laws.specs.Loadable.{Loadable, ranged-is, link-ranged, ChildRanged}
 use Rattle.laws.specs.Forest.{forest, kidsOf, type-bucket, kids-bucket, kid-link, weight-device, weight-bucket, weight-most}
 use Rattle.compile.specs.Tables.{Tabled, getD-set, blank}
 use Rattle.compile.specs.Links.{Arranged}
-use Rattle.compile.specs.Weights.{itemIn, Arrays, arrays, Within, loadIn, weighedAt, roundTo, upTo, Fitting, item-bucket, item-device}
+use Rattle.compile.specs.Weights.{itemIn, Arrays, arrays, Within, loadIn, weighedAt, roundTo, upTo, Fitting, greatest, at-most, item-bucket, item-device}
 
 -- ---- a child
 
@@ -46,32 +46,39 @@ child-of m L b c n =
 
 -- ---- what is known between two buckets of a round
 
+-- the weight of bucket b
+abbrev pub bucketWeight : Map → ℕ → ℕ
+bucketWeight m b = weightOf m (bucketItem b)
+
 -- the loads of the types up to n, and of the buckets below k of the type behind it
 pub record Known (m : Map) (loads : List ℕ) (n k : ℕ) : Type 0 where
   pub size : length loads ≡ 256
-  pub below : (b : ℕ) → b < 256 → bucketType m b ≤ n → getD loads b 0 ≡ weightOf m (bucketItem b)
-  pub here : (b : ℕ) → b < k → b < 256 → bucketType m b ≡ suc n → getD loads b 0 ≡ weightOf m (bucketItem b)
+  pub below : (b : ℕ) → b < 256 → bucketType m b ≤ n → getD loads b 0 ≡ bucketWeight m b
+  pub here : (b : ℕ) → b < k → b < 256 → bucketType m b ≡ suc n → getD loads b 0 ≡ bucketWeight m b
 
 -- the types up to n + 1 are known after all buckets
 known-next : (m : Map) (loads : List ℕ) (n : ℕ) → Known m loads n 256 → Known m loads (suc n) 0
 known-next m loads n h =
     record { size = h .size; below = λ b s l. go b s l (eqb (bucketType m b) (suc n)) refl; here = λ b s. absurd (omega arith) }
   where
-    go : (b : ℕ) → b < 256 → bucketType m b ≤ suc n → (t : Bool) → eqb (bucketType m b) (suc n) ≡ t → getD loads b 0 ≡ weightOf m (bucketItem b)
+    go : (b : ℕ) → b < 256 → bucketType m b ≤ suc n → (t : Bool) → eqb (bucketType m b) (suc n) ≡ t → getD loads b 0 ≡ bucketWeight m b
     go b s l true e = h .here b s s (eqb-true _ _ e)
     go b s l false e = let d : bucketType m b ≡ suc n → ⊥ = eqb-false _ _ e in h .below b s (omega arith)
 
 module _ (m : Map) (L : Loadable m) where
   -- a bucket of type 0 weighs nothing
-  known-none : Known m (replicate 256 0) 0 0
+  weightless : (b : ℕ) → bucketType m b ≤ 0 → bucketWeight m b ≡ 0
   unfolding weightsOf sum
+  weightless b l = weight-bucket m L b ∙ go (childrenOf m b) refl
+    where
+      go : (cs : List ℕ) → childrenOf m b ≡ cs → sum (map (weightOf m) cs) ≡ 0
+      go [] e = refl
+      go (c ∷ cs) e = absurd (omega (arith, child-of m L b c (rw e (List·Memᴰ·head refl)) .falls))
+
+  known-none : Known m (replicate 256 0) 0 0
   known-none =
       let t = blank 256 (λ i. 0) (λ i. refl) in
-      record { size = t .size; below = λ b s l. t .at b ∙ sym (weight-bucket m L b ∙ go b l (childrenOf m b) refl); here = λ b s. absurd (omega arith) }
-    where
-      go : (b : ℕ) → bucketType m b ≤ 0 → (cs : List ℕ) → childrenOf m b ≡ cs → sum (map (weightOf m) cs) ≡ 0
-      go b l [] e = refl
-      go b l (c ∷ cs) e = absurd (omega (arith, child-of m L b c (rw e (List·Memᴰ·head refl)) .falls))
+      record { size = t .size; below = λ b s l. t .at b ∙ sym (weightless b l); here = λ b s. absurd (omega arith) }
 
   -- where the arrays are the map's
   module _ {first count items devices types : List ℕ} (A : Arranged m first count items) (D : Tabled devices 1024 (deviceWeight m))
@@ -97,7 +104,7 @@ module _ (m : Map) (L : Loadable m) where
         ∙ ap (weightOf m) e
 
     -- the load of a bucket whose children's types are known
-    pub load-weight : (loads : List ℕ) (n k b : ℕ) → Known m loads n k → bucketType m b ≡ suc n → loadIn held loads b ≡ weightOf m (bucketItem b)
+    pub load-weight : (loads : List ℕ) (n k b : ℕ) → Known m loads n k → bucketType m b ≡ suc n → loadIn held loads b ≡ bucketWeight m b
     unfolding loadIn weightsOf
     load-weight loads n k b h e =
         rw (A .children b)
@@ -115,7 +122,7 @@ module _ (m : Map) (L : Loadable m) where
         v = loadIn held loads k
 
         W : ℕ → ℕ
-        W b = weightOf m (bucketItem b)
+        W = bucketWeight m
 
         stored : v ≡ W k → (b : ℕ) (t : Bool) → eqb k b ≡ t → ((k ≡ b → ⊥) → getD loads b 0 ≡ W b) → cond t v (getD loads b 0) ≡ W b
         stored e b true p q = e ∙ ap W (eqb-true k b p)
@@ -159,3 +166,22 @@ module _ (m : Map) (L : Loadable m) where
         let t : bucketType m b ≡ suc n = sym (T .at b) ∙ e ∙ add-one n in
         let k = known-round (upTo held types n) n b (omega arith) (known n) in
         rw (add-one n) (omega (arith, load-weight (roundTo held types (suc n) (upTo held types n) b) n b b k t, weight-most m L (bucketItem b)))
+
+    -- the types of all buckets passed, each has its weight; one that is not in the map weighs nothing
+    pub loads-are : Tabled (upTo held types (greatest types)) 256 (bucketWeight m)
+    loads-are = record { size = k .size; at = λ b. go b (ltb b 256) refl }
+      where
+        k : Known m (upTo held types (greatest types)) (greatest types) 0
+        k = known (greatest types)
+
+        go : (b : ℕ) (t : Bool) → ltb b 256 ≡ t → getD (upTo held types (greatest types)) b 0 ≡ bucketWeight m b
+        go b true e = k .below b (ltb-true b 256 e) (omega (arith, T .at b, at-most types b))
+        go b false e =
+            let h = ltb-false b 256 e in
+            List·getD-eq-default (upTo held types (greatest types)) 0 (omega (arith, k .size))
+            ∙ sym (weightless b (omega (arith, T .at b, List·getD-eq-default types 0 {n = b} (omega (arith, T .size)))))
+
+    -- then so has each item
+    pub item-is : {loads : List ℕ} → Tabled loads 256 (bucketWeight m) → (c : ℕ) → ChildRanged c → itemIn devices loads c ≡ weightOf m c
+    item-is {loads = loads} w c r =
+        item-weight loads (typeOf m c) 0 c (record { size = w .size; below = λ b s l. w .at b; here = λ b s. absurd (omega arith) }) r (omega arith)

@@ -13,7 +13,7 @@ use borrow.Author.Tests.{ltb-true, ltb-false, eqb-true, eqb-false, le-leb, lt-le
 use Rattle.definitions.specs.Lists.{sum}
 use Rattle.definitions.specs.Map.{isBucket, bucketNumber}
 use Rattle.laws.specs.Lists.{getD-mapped}
-use Rattle.hierarchy.specs.Arrays.{partOf, ItemRange}
+use Rattle.hierarchy.specs.Arrays.{partAt, ItemRange}
 use Rattle.compile.specs.Tables.{getD-set}
 
 -- the weight of item i, where devices and loads are the weights of devices and of buckets by their numbers
@@ -44,7 +44,7 @@ pub record Within (a : Arrays) : Type 0 where
 
 -- the sum of the weights of the children of bucket b
 unfoldable pub loadIn : Arrays → List ℕ → ℕ → ℕ
-loadIn a loads b = sum (map (itemIn (a .devices) loads) (partOf (a .first) (a .count) b (a .items)))
+loadIn a loads b = sum (map (itemIn (a .devices) loads) (partAt (a .first) (a .count) b (a .items)))
 
 module _ (a : Arrays) (types : List ℕ) where
   -- the loads after bucket b, where those of type ty are weighed

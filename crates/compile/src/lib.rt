@@ -1,61 +1,91 @@
 // A map's text made into flat arrays, once per call.
 ghost use mathlib.Core.Path.{_≡_};
-ghost use Prim.Native.Nat.{_≤_};
+ghost use Prim.Native.Nat.{ℕ, _≤_};
 ghost use lib.ListN.{length};
 ghost use Rattle.definitions.specs.Frames.{framesIn};
-ghost use Rattle.definitions.specs.Map.{mapOf, actionsOf};
-ghost use Rattle.definitions.specs.View.{viewOf, bucketType};
+ghost use Rattle.definitions.specs.Map.{Map, mapOf, actionsOf};
+ghost use Rattle.definitions.specs.View.{weightsOf, acceptanceOf, viewOf};
 ghost use Rattle.definitions.specs.Load.{loadNumber};
 ghost use Rattle.definitions.specs.Edit.{put};
 ghost use Rattle.laws.specs.Loadable.{Loadable};
 ghost use Rattle.text.specs.Shape.{shapeOf};
-ghost use Rattle.hierarchy.specs.Arrays.{viewFrom, Sound, viewIn, SoundIn, actionsIn};
+ghost use Rattle.hierarchy.specs.Arrays.{firstsIn, countsIn, partAt, viewIn, Sound, actionsIn};
 ghost use Rattle.compile.specs.Tables.{Tabled};
 ghost use Rattle.compile.specs.Reading.{Readable};
-ghost use Rattle.compile.specs.Links.{Arranged};
+ghost use Rattle.compile.specs.Weighing.{bucketWeight};
+ghost use Rattle.compile.specs.Compiled.{Planned, Weighs};
 use definitions::Change;
 use hierarchy::Hierarchy;
+use hierarchy::Plan;
+use hierarchy::Values;
 use text::Shape;
 
-pub mod buckets;
+mod buckets;
 pub mod devices;
-pub mod links;
+mod join;
+mod links;
 pub mod steps;
-pub mod weights;
+mod weights;
 
-// The weights of the children, in the order of `items`, and the acceptances.
-pub struct Weighed {
-    pub weights: [u32; 1280],
-    pub acceptance: [u32; 1024],
+// The weights of the buckets, by number, of whichever map this is the plan and `own` the weights of the devices.
+pub fn bucket_weights<'a>(plan: &'a Plan, own: &'a [u32; 1024]) -> [u32; 256]
+    requires { ⌜ ((m : Map) × Weighs m (now plan) (now own)) ⌝ }
+    ensures { λ r. ⌜ ((m : Map) → Weighs m (now (plan .entry)) (now (own .entry)) → Tabled r 256 (bucketWeight m)) ⌝ }
+{
+    let all: &[u32] = plan;
+    let first = &all[0..hierarchy::COUNT];
+    let count = &all[hierarchy::COUNT..hierarchy::TYPES];
+    let types = &all[hierarchy::TYPES..hierarchy::TYPES_END];
+    let items = &all[hierarchy::CHILDREN..hierarchy::SEED];
+    weights::loads_of(first, count, items, own, types)
 }
 
-// What an edit changes of the arrays: the weights and the acceptances, beside the children and the types, which it leaves. The edit need not
-// be written into the text yet; Malformed is no edit.
-pub fn weigh<'a>(
-    t: &[u8],
-    s: Shape,
-    c: Change,
-    first: &'a [u32],
-    count: &'a [u32],
-    types: &'a [u32],
-    items: &'a [u32],
-) -> Weighed
+// And those of the children, in their order: each bucket's part has the weights of its children.
+pub fn weigh_children<'a>(plan: &'a Plan, own: &'a [u32; 1024]) -> [u32; 1280]
+    requires { ⌜ ((m : Map) × Weighs m (now plan) (now own)) ⌝ }
+    ensures { λ r. ⌜ ((m : Map) → Weighs m (now (plan .entry)) (now (own .entry)) → (b : ℕ)
+        → partAt (firstsIn (now (plan .entry))) (countsIn (now (plan .entry))) b r ≡ weightsOf m b) ⌝ }
+{
+    let loads = bucket_weights(plan, own);
+    let all: &[u32] = plan;
+    weights::weights_of(own, &loads, &all[hierarchy::CHILDREN..hierarchy::SEED])
+}
+
+// With the acceptances of the devices, all that the map is beside its plan.
+pub fn values_of<'a>(plan: &'a Plan, own: &'a [u32; 1024], acceptance: &'a [u32; 1024]) -> Values
+    requires { ⌜ ((m : Map) × Weighs m (now plan) (now own)) ⌝ }
+    ensures { λ r. ⌜ ((m : Map) → Weighs m (now (plan .entry)) (now (own .entry)) → Tabled (now (acceptance .entry)) 1024 (acceptanceOf m)
+        → viewIn (now (plan .entry)) r ≡ viewOf m) ⌝ }
+{
+    let weights = weigh_children(plan, own);
+    join::values_of(acceptance, &weights)
+}
+
+// What no edit changes: children, types and the seed.
+pub fn plan_of(t: &[u8], s: Shape) -> Plan
+    requires { ⌜ Readable (now t) s (mapOf (now t)) ⌝ }
+    ensures { λ r. ⌜ Planned (mapOf (now (t .entry))) r ⌝ }
+{
+    let children = links::children_of(t, s);
+    let first = children.first;
+    let count = children.count;
+    let items = children.items;
+    let types = buckets::types_of(t, s);
+    join::plan_of(&first, &count, &types, &items, jenkins::SEED)
+}
+
+// What an edit changes: the weights and the acceptances, beside the plan, which it leaves. The edit need not be written into the text yet;
+// Malformed is no edit.
+pub fn weigh<'a, 'b>(t: &'a [u8], s: Shape, c: Change, plan: &'b Plan) -> Values
     requires { ⌜ Readable (now t) s (put (mapOf (now t)) c) ⌝ }
-    requires { ⌜ Arranged (mapOf (now t)) (now first) (now count) (now items) × Tabled (now types) 256 (bucketType (mapOf (now t))) ⌝ }
-    ensures { λ r. ⌜ viewFrom 1315423911 (now (first .entry)) (now (count .entry)) (now (types .entry)) (now (items .entry)) (r .weights) (r .acceptance)
-        ≡ viewOf (put (mapOf (now (t .entry))) c) ⌝ }
-    ensures { λ r. ⌜ Sound (now (first .entry)) (now (count .entry)) (now (types .entry)) (now (items .entry)) (r .weights) ⌝ }
-    ensures { λ r. ⌜ length (r .acceptance) ≡ 1024 ⌝ }
+    requires { ⌜ Planned (mapOf (now t)) (now plan) ⌝ }
+    ensures { λ r. ⌜ viewIn (now (plan .entry)) r ≡ viewOf (put (mapOf (now (t .entry))) c) ⌝ }
+    ensures { λ r. ⌜ Sound (now (plan .entry)) ⌝ }
 {
     let devices = devices::devices_of(t, s, c);
     let own = devices.weights;
     let acceptance = devices.acceptances;
-    let loads = weights::loads_of(first, count, items, &own, types);
-    let weights = weights::weights_of(&own, &loads, items);
-    Weighed {
-        weights,
-        acceptance,
-    }
+    values_of(plan, &own, &acceptance)
 }
 
 // The arrays of the map as an edit leaves it.
@@ -63,29 +93,16 @@ pub fn compile(t: &[u8], s: Shape, c: Change) -> Hierarchy
     requires { ⌜ loadNumber (now t) ≡ 0 ⌝ }
     requires { ⌜ s ≡ shapeOf (framesIn (now t)) ⌝ }
     requires { ⌜ Loadable (put (mapOf (now t)) c) ⌝ }
-    ensures { λ r. ⌜ viewIn 1315423911 r ≡ viewOf (put (mapOf (now (t .entry))) c) ⌝ }
-    ensures { λ r. ⌜ SoundIn r ⌝ }
-    ensures { λ r. ⌜ length (r .acceptance) ≡ 1024 ⌝ }
-    ensures { λ r. ⌜ actionsIn r ≡ actionsOf (mapOf (now (t .entry))) ⌝ }
-    ensures { λ r. ⌜ (r .len ≡ length (mapOf (now (t .entry)) .steps)) × (r .len ≤ 16) ⌝ }
+    ensures { λ r. ⌜ viewIn (r .plan) (r .values) ≡ viewOf (put (mapOf (now (t .entry))) c) ⌝ }
+    ensures { λ r. ⌜ Sound (r .plan) ⌝ }
+    ensures { λ r. ⌜ (actionsIn (r .rule) ≡ actionsOf (mapOf (now (t .entry)))) × (r .rule .len ≡ length (mapOf (now (t .entry)) .steps)) × (r .rule .len ≤ 16) ⌝ }
 {
-    let children = links::children_of(t, s);
-    let first = children.first;
-    let count = children.count;
-    let items = children.items;
-    let types = buckets::types_of(t, s);
-    let w = weigh(t, s, c, &first, &count, &types, &items);
-    let weights = w.weights;
-    let acceptance = w.acceptance;
-    let steps = steps::steps_of(t, s);
+    let plan = plan_of(t, s);
+    let values = weigh(t, s, c, &plan);
+    let rule = steps::rule_of(t, s);
     Hierarchy {
-        first: first,
-        count: count,
-        types: types,
-        items: items,
-        weights: weights,
-        acceptance: acceptance,
-        steps: steps,
-        len: s.steps,
+        plan: plan,
+        values: values,
+        rule: rule,
     }
 }

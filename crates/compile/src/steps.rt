@@ -1,13 +1,16 @@
-// The steps of the rule.
+// The rule.
 ghost use mathlib.Core.Path.{_≡_};
-ghost use lib.ListN.{take};
-ghost use Rattle.definitions.specs.Map.{mapOf};
+ghost use Prim.Native.Nat.{_≤_};
+ghost use lib.ListN.{length, take};
+ghost use Rattle.definitions.specs.Map.{mapOf, actionsOf};
+ghost use Rattle.hierarchy.specs.Arrays.{actionsIn};
 ghost use Rattle.compile.specs.Reading.{Readable};
 use definitions::Step;
 use frames::records;
+use hierarchy::Rule;
 use text::Shape;
 
-pub fn steps_of(t: &[u8], s: Shape) -> [Step; 16]
+fn steps_of(t: &[u8], s: Shape) -> [Step; 16]
     requires { ⌜ Readable (now t) s (mapOf (now t)) ⌝ }
     ensures { λ r. ⌜ take (s .steps) r ≡ mapOf (now (t .entry)) .steps ⌝ }
 {
@@ -25,4 +28,15 @@ pub fn steps_of(t: &[u8], s: Shape) -> [Step; 16]
         k += 1;
     }
     steps
+}
+
+pub fn rule_of(t: &[u8], s: Shape) -> Rule
+    requires { ⌜ Readable (now t) s (mapOf (now t)) ⌝ }
+    ensures { λ r. ⌜ (actionsIn r ≡ actionsOf (mapOf (now (t .entry)))) × (r .len ≡ length (mapOf (now (t .entry)) .steps)) × (r .len ≤ 16) ⌝ }
+{
+    let steps = steps_of(t, s);
+    Rule {
+        steps: steps,
+        len: s.steps,
+    }
 }

@@ -13,7 +13,7 @@ fn weight_of<'a>(devices: &'a [u32], loads: &'a [u32], i: u32) -> u32
     requires { ⌜ (length (now devices) ≡ 1024) × (length (now loads) ≡ 256) × ItemRange i ⌝ }
     ensures { λ r. ⌜ r ≡ itemIn (now (devices .entry)) (now (loads .entry)) i ⌝ }
 {
-    let item = Item { number: i };
+    let item = Item::numbered(i);
     if item.is_bucket() {
         let b = item.bucket_number() as usize;
         loads[b]

@@ -1,20 +1,21 @@
--- What holds of a draw in sound arrays: the winner is an item in range, of a type below its bucket's. So a descent ends, and stays in
+-- What holds of a draw in a sound plan: the winner is an item in range, of a type below its bucket's. So a descent ends, and stays in
 -- the map. Assumes nothing.
 use mathlib.Core.Path.{_≡_, sym, ap, _∙_, subst}
 use mathlib.Core.List.{List}
 use mathlib.Core.Logic.{inl, inr}
-use Prim.Native.Nat.{ℕ, _+_, _<_, _≤_}
+use Prim.Native.Nat.{ℕ, _<_, _≤_}
 use native.Mathlib.Omega.{arith}
 use native.Mathlib.Nat.{lt-of-not-le}
 use borrow.Author.Tests.{lt-leb, le-leb}
-use lib.ListN.{getD, drop, length-take, List·getD-eq-default}
+use lib.ListN.{drop, length-take}
 use lib.Seq.{getD-take, getD-drop}
 use Rattle.definitions.specs.declared.Drawn.the-variants.{Winner, Nothing}
 use Rattle.definitions.specs.declared.Landed.{Landed}
 use Rattle.definitions.specs.Map.{bucketNumber, bucketItem}
-use Rattle.definitions.specs.Straw.{drawOf}
+use Rattle.definitions.specs.View.{View}
 use Rattle.definitions.specs.Walk.{Descent, drawAt, landing, deeper, descend}
-use Rattle.hierarchy.specs.Arrays.{partOf, typeIn, viewFrom, ItemRange, Sound}
+use Rattle.hierarchy.specs.Sections.{section-beyond}
+use Rattle.hierarchy.specs.Arrays.{countAt, firstIn, countIn, bucketTypeIn, childrenIn, childIn, typeIn, viewIn, ItemRange, Sound}
 use Rattle.laws.specs.Draw.{winner-child}
 use Rattle.laws.specs.Fuel.{Sinks}
 use Rattle.laws.specs.Walk.{descend-none, descend-stop, descend-down}
@@ -24,11 +25,11 @@ abbrev pub LandedBounds : Landed → Type 0
 LandedBounds l = (l .bucket < 256) × ((i : ℕ) → l .drawn ≡ Winner i → ItemRange i)
 
 -- the type of a bucket's item is the bucket's, and that of a device is 0
-pub type-bucket : (types : List ℕ) (i : ℕ) → 65536 ≤ i → typeIn types i ≡ getD types (bucketNumber i) 0
-type-bucket types i h = rw (le-leb 65536 i h)
+pub type-bucket : (plan : List ℕ) (i : ℕ) → 65536 ≤ i → typeIn plan i ≡ bucketTypeIn plan (bucketNumber i)
+type-bucket plan i h = rw (le-leb 65536 i h)
 
-pub type-device : (types : List ℕ) (i : ℕ) → i < 65536 → typeIn types i ≡ 0
-type-device types i h = rw (lt-leb 65536 i h)
+pub type-device : (plan : List ℕ) (i : ℕ) → i < 65536 → typeIn plan i ≡ 0
+type-device plan i h = rw (lt-leb 65536 i h)
 
 -- the bucket of an item in range is below 256
 pub bucket-below : (i : ℕ) → ItemRange i → 65536 ≤ i → bucketNumber i < 256
@@ -36,74 +37,60 @@ bucket-below i (inl h) l = absurd (omega arith)
 bucket-below i (inr h) l = omega (arith, h .1)
 
 -- an item of a type above another is a bucket's
-pub typed-bucket : (types : List ℕ) (i t : ℕ) → t < typeIn types i → 65536 ≤ i
-typed-bucket types i t l = lt-of-not-le (λ (h : i ≤ 65535). omega (arith, type-device types i (omega arith)))
+pub typed-bucket : (plan : List ℕ) (i t : ℕ) → t < typeIn plan i → 65536 ≤ i
+typed-bucket plan i t l = lt-of-not-le (λ (h : i ≤ 65535). omega (arith, type-device plan i (omega arith)))
 
-module _ {first count types items weights : List ℕ} (sound : Sound first count types items weights) where
+module _ {plan : List ℕ} (sound : Sound plan) (values : List ℕ) where
+  abbrev v : View
+  v = viewIn plan values
+
   -- the winner is a child of the bucket, at some place
-  child-at : (seed x r b i : ℕ) → drawOf seed x r (partOf first count b items) (partOf first count b weights) ≡ Winner i
-      → (j : ℕ) × (j < getD count b 0) × (getD items (getD first b 0 + j) 0 ≡ i)
-  child-at seed x r b i e =
-      let (j, l, at, above) = winner-child seed x r (partOf first count b items) (partOf first count b weights) i e in
-      let n : ℕ = getD count b 0 in
-      let rest : List ℕ = drop (getD first b 0) items in
+  child-at : (x r b i : ℕ) → drawAt v x r b ≡ Winner i → (j : ℕ) × (j < countIn plan b) × (childIn plan b j ≡ i)
+  unfolding drawAt
+  child-at x r b i e =
+      let (j, l, at, above) = winner-child (v .seed) x r (v .children b) (v .weights b) i e in
+      let n : ℕ = countIn plan b in
+      let rest : List ℕ = drop (firstIn plan b) (childrenIn plan) in
       let lt : j < n = omega (arith, l, length-take n rest) in
-      (j, lt, sym (getD-take n rest j 0 lt ∙ getD-drop (getD first b 0) items j 0) ∙ at)
+      (j, lt, sym (getD-take n rest j 0 lt ∙ getD-drop (firstIn plan b) (childrenIn plan) j 0) ∙ at)
+
+  -- no bucket that is not in the plan has a child
+  pub within-plan : (x r b i : ℕ) → drawAt v x r b ≡ Winner i → b < 256
+  within-plan x r b i e =
+      let (j, l, at) = child-at x r b i e in
+      lt-of-not-le (λ (h : 256 ≤ b). omega (arith, l, section-beyond countAt 256 b plan h))
 
   -- it is in range
-  pub winner-range : (seed x r b i : ℕ) → b < 256 → drawOf seed x r (partOf first count b items) (partOf first count b weights) ≡ Winner i
-      → ItemRange i
-  winner-range seed x r b i h e = let (j, l, at) = child-at seed x r b i e in subst ItemRange at (sound .ranged b j h l)
+  pub winner-range : (x r b i : ℕ) → drawAt v x r b ≡ Winner i → ItemRange i
+  winner-range x r b i e = let (j, l, at) = child-at x r b i e in subst ItemRange at (sound .ranged b j (within-plan x r b i e) l)
 
   -- its type is below the bucket's
-  pub winner-falls : (seed x r b i : ℕ) → b < 256 → drawOf seed x r (partOf first count b items) (partOf first count b weights) ≡ Winner i
-      → typeIn types i < getD types b 0
-  winner-falls seed x r b i h e =
-      let (j, l, at) = child-at seed x r b i e in
-      subst (λ (k : ℕ). typeIn types k < getD types b 0) at (sound .falls b j h l)
-
-  -- no bucket that is not in the arrays has a child
-  within-arrays : (seed x r b i : ℕ) → drawOf seed x r (partOf first count b items) (partOf first count b weights) ≡ Winner i → b < 256
-  within-arrays seed x r b i e =
-      let (j, l, at) = child-at seed x r b i e in
-      lt-of-not-le (λ (h : 256 ≤ b).
-      let none : getD count b 0 ≡ 0 = List·getD-eq-default count 0 (omega (arith, sound .counts)) in
-      omega (arith, l, none))
+  pub winner-falls : (x r b i : ℕ) → drawAt v x r b ≡ Winner i → typeIn plan i < bucketTypeIn plan b
+  winner-falls x r b i e =
+      let (j, l, at) = child-at x r b i e in
+      subst (λ (k : ℕ). typeIn plan k < bucketTypeIn plan b) at (sound .falls b j (within-plan x r b i e) l)
 
   -- so a descent ends by itself: what its fuel is changes nothing (`descend-enough`, crate laws)
-  pub sound-sinks : (seed : ℕ) (acceptance : List ℕ) → Sinks (viewFrom seed first count types items weights acceptance)
-  unfolding drawAt
-  sound-sinks seed acceptance =
+  pub sound-sinks : Sinks v
+  sound-sinks =
       record {
         drawn = λ x r b i e.
             let z : bucketNumber (bucketItem b) ≡ b = omega arith in
-            rw (type-bucket types (bucketItem b) (omega arith), z) (winner-falls seed x r b i (within-arrays seed x r b i e) e);
-        device = type-device types;
+            rw (type-bucket plan (bucketItem b) (omega arith), z) (winner-falls x r b i e);
+        device = type-device plan;
       }
 
-  module _ (seed x t r : ℕ) where
-    -- the descent from bucket b comes to l, whatever the acceptances are
-    abbrev pub Lands : ℕ → Landed → Type 0
-    Lands b l = (acceptance : List ℕ) → l ≡ descend (viewFrom seed first count types items weights acceptance) x t r b .landed
+  -- what the draw at bucket b leads to
+  module _ (x t r b : ℕ) where
+    pub lands-none : drawAt v x r b ≡ Nothing → record { bucket = b; drawn = Nothing } ≡ descend v x t r b .landed
+    unfolding landing
+    lands-none e = sym (ap (λ (d : Descent). d .landed) (descend-none v x t r b sound-sinks e))
 
-    -- what the draw at bucket b leads to
-    module _ (b : ℕ) where
-      pub lands-none : drawOf seed x r (partOf first count b items) (partOf first count b weights) ≡ Nothing
-          → Lands b (record { bucket = b; drawn = Nothing })
-      unfolding drawAt landing
-      lands-none e acceptance =
-          let v = viewFrom seed first count types items weights acceptance in
-          sym (ap (λ (d : Descent). d .landed) (descend-none v x t r b (sound-sinks seed acceptance) e))
+    module _ (i : ℕ) (e : drawAt v x r b ≡ Winner i) where
+      pub lands-stop : typeIn plan i ≤ t → record { bucket = b; drawn = Winner i } ≡ descend v x t r b .landed
+      unfolding landing
+      lands-stop h = sym (ap (λ (d : Descent). d .landed) (descend-stop v x t r b sound-sinks i e h))
 
-      module _ (i : ℕ) (e : drawOf seed x r (partOf first count b items) (partOf first count b weights) ≡ Winner i) where
-        pub lands-stop : typeIn types i ≤ t → Lands b (record { bucket = b; drawn = Winner i })
-        unfolding drawAt landing
-        lands-stop h acceptance =
-            let v = viewFrom seed first count types items weights acceptance in
-            sym (ap (λ (d : Descent). d .landed) (descend-stop v x t r b (sound-sinks seed acceptance) i e h))
-
-        pub lands-down : t < typeIn types i → (l : Landed) → Lands (bucketNumber i) l → Lands b l
-        unfolding drawAt deeper
-        lands-down h l go acceptance =
-            let v = viewFrom seed first count types items weights acceptance in
-            go acceptance ∙ sym (ap (λ (d : Descent). d .landed) (descend-down v x t r b (sound-sinks seed acceptance) i e h))
+      pub lands-down : t < typeIn plan i → (l : Landed) → l ≡ descend v x t r (bucketNumber i) .landed → l ≡ descend v x t r b .landed
+      unfolding deeper
+      lands-down h l go = go ∙ sym (ap (λ (d : Descent). d .landed) (descend-down v x t r b sound-sinks i e h))

@@ -1,11 +1,11 @@
 -- Places as bytes, two each. Assumes nothing.
 use mathlib.Core.Path.{_≡_, refl, sym, ap, _∙_}
-use mathlib.Core.List.{List, [], _∷_, _++_, map, append-assoc, append-nil}
-use Prim.Native.Nat.{ℕ, zero, suc, _+_, _*_, _/_, _%_, _<_, _≤_}
+use mathlib.Core.List.{List, [], _∷_, _++_, append-assoc}
+use Prim.Native.Nat.{ℕ, suc, _+_, _*_, _/_, _%_, _<_, _≤_}
 use native.Mathlib.Omega.{arith}
 use native.Mathlib.Numerals.{add-one}
 use lib.ListN.{length, getD, take, drop, set, length-append}
-use lib.Seq.{take-suc, take-length, drop-cons, set-at, length-take-le, append-snoc}
+use lib.Seq.{take-suc, take-length, drop-cons, set-at, length-take-le}
 use Rattle.definitions.specs.Lists.{joined, over}
 use Rattle.definitions.specs.Writing.{twoBytes}
 

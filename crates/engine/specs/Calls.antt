@@ -1,20 +1,20 @@
 -- What each call answers, question by question: laws of the definitions in `Calls`, for the proofs of the engine. Assumes nothing.
-use mathlib.Core.Path.{_≡_, refl, sym, ap, _∙_, subst}
-use mathlib.Core.Bool.{Bool, true, false, cond}
-use mathlib.Core.List.{List, [], _∷_, _++_}
-use Prim.Native.Nat.{ℕ, zero, suc, _+_, _*_, _<_, _≤_}
+use mathlib.Core.Path.{_≡_, refl, ap, _∙_}
+use mathlib.Core.Bool.{Bool, true, false}
+use mathlib.Core.List.{List, [], _∷_}
+use Prim.Native.Nat.{ℕ, zero, suc, _*_, _<_, _≤_}
 use native.Mathlib.Omega.{arith}
-use lib.Dec.{leb, ltb, eqb}
+use lib.Dec.{leb}
 use lib.ListN.{length}
 use borrow.Author.Tests.{eq-eqb, ne-eqb, lt-ltb, le-ltb, le-leb, lt-leb, leb-true, leb-false}
 use Rattle.definitions.specs.Lists.{over, firstNo}
-use Rattle.definitions.specs.Map.{Map, mapOf}
+use Rattle.definitions.specs.Map.{mapOf}
 use Rattle.definitions.specs.Select.{entriesOf}
-use Rattle.definitions.specs.Rule.{widthOf, Placed, placedOf}
+use Rattle.definitions.specs.Rule.{widthOf, placedOf}
 use Rattle.definitions.specs.Table.{tableOf}
-use Rattle.definitions.specs.Writing.{mapText, dayGroup, twoBytes}
+use Rattle.definitions.specs.Writing.{dayGroup, twoBytes}
 use Rattle.definitions.specs.Load.{loadNumber}
-use Rattle.definitions.specs.Calls.{whole, groupBelow, roomForRow, roomForTable, roomForFrames, roomForBytes, PlaceAnswer, placeNumber, placeBy, placeOf, DaemonAnswer, afterLoad, daemonNumber, daemonBy, daemonOf, FillAnswer, fillNumber, fillBy, fillOf, WriteAnswer, writeNumber, writeBy, writeOf, DayAnswer, dayNumber, dayBy, dayOf}
+use Rattle.definitions.specs.Calls.{whole, groupBelow, roomForRow, roomForTable, roomForFrames, roomForBytes, placeNumber, placeBy, placeOf, afterLoad, daemonNumber, daemonBy, daemonOf, FillAnswer, fillNumber, fillBy, fillOf, writeNumber, writeBy, writeOf, dayNumber, dayBy, dayOf}
 use Rattle.text.specs.Agreement.{loaded-text}
 
 -- question 14

@@ -1,23 +1,19 @@
 -- What edit answers, question by question: laws of its definition, for the proofs of the engine. Assumes nothing.
-use mathlib.Core.Path.{_≡_, refl, sym, ap, _∙_}
-use mathlib.Core.Bool.{Bool, true, false, cond, _&&_}
-use mathlib.Core.List.{List, [], _∷_, _++_}
-use Prim.Native.Nat.{ℕ, zero, suc, _+_, _*_, _<_, _≤_}
-use native.Mathlib.Omega.{arith}
-use lib.Dec.{leb, eqb}
-use lib.ListN.{length, getD}
+use mathlib.Core.Path.{_≡_}
+use mathlib.Core.Bool.{true, false}
+use mathlib.Core.List.{List}
+use Prim.Native.Nat.{ℕ, _*_, _<_, _≤_}
+use lib.ListN.{length}
 use borrow.Author.Tests.{eq-eqb, ne-eqb, le-leb, lt-leb}
 use Rattle.definitions.specs.declared.Change.{Change}
-use Rattle.definitions.specs.declared.Change.the-variants.{Acceptance, Weight, Malformed}
-use Rattle.definitions.specs.declared.Move.{Move}
 use Rattle.definitions.specs.Lists.{over, firstNo}
 use Rattle.definitions.specs.Map.{Map, mapOf}
 use Rattle.definitions.specs.Rule.{widthOf}
-use Rattle.definitions.specs.Table.{runsOf, tableIn, tableOf}
-use Rattle.definitions.specs.Edit.{changeOf, put, movesIn, movesOf, movesBytes}
+use Rattle.definitions.specs.Table.{runsOf, tableOf}
+use Rattle.definitions.specs.Edit.{changeOf, put, movesOf, movesBytes}
 use Rattle.definitions.specs.Writing.{mapText}
 use Rattle.definitions.specs.Load.{loadNumber}
-use Rattle.definitions.specs.Calls.{whole, roomForTable, independent, fits, fresh, roomForMoves, EditAnswer, EditCase, caseOf, editNumber, editBy, editAnswer, editOf}
+use Rattle.definitions.specs.Calls.{whole, roomForTable, independent, fits, fresh, roomForMoves, EditAnswer, caseOf, editNumber, editBy, editAnswer, editOf}
 
 -- a refusal with number n
 abbrev pub refusedEdit : ℕ → List ℕ → List ℕ → List ℕ → EditAnswer

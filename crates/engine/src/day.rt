@@ -1,13 +1,8 @@
 // "A day's group is hash of two (show, day) mod G, both 32-bit."
 ghost use mathlib.Core.Path.{_≡_};
-ghost use Prim.Native.Nat.{_%_, _<_};
 ghost use Rattle.definitions.specs.Calls.{dayOf};
-ghost use Rattle.definitions.specs.Hash.{hash2};
 ghost use Rattle.engine.specs.Answers.{dayAnswer};
 use frames::records;
-
-// S of document 01, under every hash.
-pub const SEED: u32 = 1315423911;
 
 // 14 or 0, and the group.
 #[repr(C)]
@@ -28,6 +23,6 @@ pub fn day_group(map: &[u8], show: u32, day: u32) -> Day
     let g = records::groups(map);
     Day {
         number: 0,
-        group: jenkins::hash2(SEED, show, day) % g,
+        group: jenkins::hash2(jenkins::SEED, show, day) % g,
     }
 }

@@ -16,18 +16,15 @@ ghost use Rattle.text.specs.RoundTrip.{Framed};
 ghost use Rattle.engine.specs.Answers.{editAnswer};
 ghost use Rattle.engine.specs.Fitting.{Fitted, PlaceOf};
 ghost use Rattle.engine.specs.Paired.{Paired};
-use crate::day;
 use blocks::independent;
 use blocks::widths;
-use compile::buckets;
-use compile::links;
 use compile::steps;
 use definitions::Change;
-use definitions::Step;
 use frames::edit_frame;
 use frames::edit_frame::Found;
 use frames::records;
 use frames::shape;
+use hierarchy::Rule;
 use survey::applies;
 use survey::surveys;
 use text::Shape;
@@ -38,17 +35,12 @@ pub struct Edited {
     pub moves: u32,
 }
 
-// A map in flat arrays before an edit and after it: children, types and steps are the same.
+// A map in flat arrays before an edit and after it: the plan and the rule are the same.
 pub struct Pair {
-    pub first: [u32; 256],
-    pub count: [u32; 256],
-    pub types: [u32; 256],
-    pub items: [u32; 1280],
-    pub weights: [u32; 1280],
-    pub acceptance: [u32; 1024],
-    pub weights2: [u32; 1280],
-    pub acceptance2: [u32; 1024],
-    pub steps: [Step; 16],
+    pub plan: [u32; 2305],
+    pub old: [u32; 2304],
+    pub new: [u32; 2304],
+    pub rule: Rule,
 }
 
 // A refusal: its number and no moves.
@@ -99,30 +91,17 @@ fn put_value(map: &mut [u8], k: usize, c: Change)
 // The arrays of the map as it is and as an edit leaves it.
 fn pair_of(map: &[u8], s: Shape, c: Change) -> Pair
     requires { ⌜ (loadNumber (now map) ≡ 0) × (s ≡ shapeOf (framesIn (now map))) × (fits (mapOf (now map)) c ≡ true) ⌝ }
-    ensures { λ r. ⌜ Paired (mapOf (now (map .entry))) c (s .steps) r ⌝ }
+    ensures { λ r. ⌜ Paired (mapOf (now (map .entry))) c r ⌝ }
 {
-    let children = links::children_of(map, s);
-    let first = children.first;
-    let count = children.count;
-    let items = children.items;
-    let types = buckets::types_of(map, s);
-    let old = compile::weigh(map, s, Change::Malformed, &first, &count, &types, &items);
-    let weights = old.weights;
-    let acceptance = old.acceptance;
-    let new = compile::weigh(map, s, c, &first, &count, &types, &items);
-    let weights2 = new.weights;
-    let acceptance2 = new.acceptance;
-    let steps = steps::steps_of(map, s);
+    let plan = compile::plan_of(map, s);
+    let old = compile::weigh(map, s, Change::Malformed, &plan);
+    let new = compile::weigh(map, s, c, &plan);
+    let rule = steps::rule_of(map, s);
     Pair {
-        first: first,
-        count: count,
-        types: types,
-        items: items,
-        weights: weights,
-        acceptance: acceptance,
-        weights2: weights2,
-        acceptance2: acceptance2,
-        steps: steps,
+        plan: plan,
+        old: old,
+        new: new,
+        rule: rule,
     }
 }
 
@@ -144,24 +123,8 @@ fn edit_device(
         → editAnswer r (now (map .exit)) (now (table .exit)) (now (space .exit)) ≡ editOf (now (map .entry)) (now (table .entry)) e (now (space .entry))) ⌝ }
 {
     let p = pair_of(map, s, c);
-    let steps = p.steps;
-    let n = s.steps;
-    let found = surveys::survey(
-        &p.first,
-        &p.count,
-        &p.types,
-        &p.items,
-        &p.weights,
-        &p.acceptance,
-        &p.weights2,
-        &p.acceptance2,
-        day::SEED,
-        steps,
-        n,
-        groups,
-        w,
-        table,
-    );
+    let rule = p.rule;
+    let found = surveys::survey(&p.plan, &p.old, &p.new, rule, groups, w, table);
     if !found.fresh {
         return refused(19);
     }
@@ -170,17 +133,10 @@ fn edit_device(
         return refused(20);
     }
     applies::apply(
-        &p.first,
-        &p.count,
-        &p.types,
-        &p.items,
-        &p.weights,
-        &p.acceptance,
-        &p.weights2,
-        &p.acceptance2,
-        day::SEED,
-        steps,
-        n,
+        &p.plan,
+        &p.old,
+        &p.new,
+        rule,
         groups,
         w,
         &found.changed,

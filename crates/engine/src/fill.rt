@@ -2,7 +2,6 @@
 ghost use mathlib.Core.Path.{_≡_};
 ghost use Rattle.definitions.specs.Calls.{fillOf};
 ghost use Rattle.engine.specs.Answers.{fillAnswer};
-use crate::day;
 use blocks::widths;
 use definitions::Change;
 use frames::records;
@@ -34,21 +33,7 @@ pub fn fill(map: &[u8], table: &mut [u16]) -> Filled
         };
     }
     let h = compile::compile(map, s, Change::Malformed);
-    let steps = h.steps;
-    let n = h.len;
-    table::fill_rows(
-        &h.first,
-        &h.count,
-        &h.types,
-        &h.items,
-        &h.weights,
-        &h.acceptance,
-        day::SEED,
-        steps,
-        n,
-        groups,
-        w,
-        table,
-    );
+    let rule = h.rule;
+    table::fill_rows(&h.plan, &h.values, rule, groups, w, table);
     Filled { number: 0, places }
 }

@@ -7,7 +7,6 @@ ghost use Rattle.definitions.specs.Select.{entriesOf};
 ghost use Rattle.definitions.specs.Rule.{widthOf, placedOf};
 ghost use Rattle.definitions.specs.Load.{loadNumber};
 ghost use Rattle.text.specs.Shape.{shapeOf};
-use crate::day;
 use definitions::Change;
 use placement::rule;
 use text::Shape;
@@ -18,19 +17,6 @@ pub(crate) fn place_into(map: &[u8], s: Shape, x: u32, row: &mut [u16]) -> u32
     ensures { λ r. ⌜ (now (row .exit) ≡ entriesOf (placedOf (mapOf (now (map .entry))) x .places)) × (r ≡ placedOf (mapOf (now (map .entry))) x .tries) ⌝ }
 {
     let h = compile::compile(map, s, Change::Malformed);
-    let steps = h.steps;
-    let n = h.len;
-    rule::place_row(
-        &h.first,
-        &h.count,
-        &h.types,
-        &h.items,
-        &h.weights,
-        &h.acceptance,
-        day::SEED,
-        steps,
-        n,
-        x,
-        row,
-    )
+    let rule = h.rule;
+    rule::place_row(&h.plan, &h.values, rule, x, row)
 }

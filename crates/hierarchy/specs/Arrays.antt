@@ -1,56 +1,106 @@
--- The view that flat arrays give, and what must hold of them for a draw to read inside them and a descent to end.
-use mathlib.Core.Path.{_≡_}
-use mathlib.Core.Bool.{Bool, true, false, cond}
+-- The view that the plan and the values give, and what must hold of them for a draw to read inside them and a descent to end.
+use mathlib.Core.Bool.{cond}
 use mathlib.Core.List.{List, map}
 use mathlib.Core.Logic.{_⊎_}
 use Prim.Native.Nat.{ℕ, _+_, _<_, _≤_}
-use lib.ListN.{length, getD, take, drop}
+use lib.ListN.{getD, take, drop}
 use Rattle.definitions.specs.declared.Action.{Action}
-use Rattle.definitions.specs.declared.Step.{Step}
-use Rattle.definitions.specs.Map.{isBucket, bucketNumber, bucketItem, actionOf}
+use Rattle.definitions.specs.Map.{isBucket, bucketNumber, actionOf}
 use Rattle.definitions.specs.View.{View}
-use Rattle.hierarchy.specs.declared.Hierarchy.{Hierarchy}
+use Rattle.hierarchy.specs.declared.Rule.{Rule}
+use Rattle.hierarchy.specs.Sections.{section}
 
--- the part of a list that belongs to bucket b
-abbrev pub partOf : List ℕ → List ℕ → ℕ → List ℕ → List ℕ
-partOf first count b xs = take (getD count b 0) (drop (getD first b 0) xs)
+-- ---- where the sections begin: COUNT, TYPES, CHILDREN and SEED of src/lib.rt, which has the same numbers
+
+abbrev pub countAt : ℕ
+countAt = 256
+
+abbrev pub typesAt : ℕ
+typesAt = 512
+
+abbrev pub childrenAt : ℕ
+childrenAt = 1024
+
+abbrev pub seedAt : ℕ
+seedAt = 2304
+
+-- ---- the plan
+
+-- of each bucket: where its children begin among those of all, how many they are, its type
+abbrev pub firstsIn : List ℕ → List ℕ
+firstsIn plan = section 0 256 plan
+
+abbrev pub countsIn : List ℕ → List ℕ
+countsIn plan = section countAt 256 plan
+
+abbrev pub typesIn : List ℕ → List ℕ
+typesIn plan = section typesAt 256 plan
+
+-- of bucket b
+abbrev pub firstIn : List ℕ → ℕ → ℕ
+firstIn plan b = getD (firstsIn plan) b 0
+
+abbrev pub countIn : List ℕ → ℕ → ℕ
+countIn plan b = getD (countsIn plan) b 0
+
+abbrev pub bucketTypeIn : List ℕ → ℕ → ℕ
+bucketTypeIn plan b = getD (typesIn plan) b 0
 
 -- the type of item i
 abbrev pub typeIn : List ℕ → ℕ → ℕ
-typeIn types i = cond (isBucket i) (getD types (bucketNumber i) 0) 0
+typeIn plan i = cond (isBucket i) (bucketTypeIn plan (bucketNumber i)) 0
 
-abbrev pub viewFrom : ℕ → List ℕ → List ℕ → List ℕ → List ℕ → List ℕ → List ℕ → View
-viewFrom seed first count types items weights acceptance =
+-- the seed of the hashes
+abbrev pub seedIn : List ℕ → ℕ
+seedIn plan = getD plan seedAt 0
+
+-- ---- the children of all buckets in the plan, and their weights at the same place in the values
+
+abbrev pub childrenIn : List ℕ → List ℕ
+childrenIn xs = section childrenAt 1280 xs
+
+-- the part of a list that belongs to bucket b, by where the buckets' parts begin and how long they are
+abbrev pub partAt : List ℕ → List ℕ → ℕ → List ℕ → List ℕ
+partAt first count b xs = take (getD count b 0) (drop (getD first b 0) xs)
+
+-- those of bucket b
+abbrev pub partOf : List ℕ → ℕ → List ℕ → List ℕ
+partOf plan b xs = partAt (firstsIn plan) (countsIn plan) b (childrenIn xs)
+
+-- child j of bucket b
+abbrev pub childIn : List ℕ → ℕ → ℕ → ℕ
+childIn plan b j = getD (childrenIn plan) (firstIn plan b + j) 0
+
+-- ---- the values: the acceptances of the devices
+
+abbrev pub acceptancesIn : List ℕ → List ℕ
+acceptancesIn values = section 0 1024 values
+
+-- ---- both
+
+abbrev pub viewIn : List ℕ → List ℕ → View
+viewIn plan values =
     record {
-      seed = seed;
-      children = λ b. partOf first count b items;
-      weights = λ b. partOf first count b weights;
-      type = typeIn types;
-      acceptance = λ d. getD acceptance d 0;
+      seed = seedIn plan;
+      children = λ b. partOf plan b plan;
+      weights = λ b. partOf plan b values;
+      type = typeIn plan;
+      acceptance = λ d. getD (acceptancesIn values) d 0;
     }
 
 -- an item that a map can have: a device below 1,024, or a bucket below 256
 abbrev pub ItemRange : ℕ → Type 0
 ItemRange i = (i < 1024) ⊎ ((65536 ≤ i) × (i < 65792))
 
--- what a draw and a descent need
-pub record Sound (first count types items weights : List ℕ) : Type 0 where
-  pub firsts : length first ≡ 256
-  pub counts : length count ≡ 256
-  pub typed : length types ≡ 256
-  pub paired : length weights ≡ length items
-  pub inside : (b : ℕ) → b < 256 → getD first b 0 + getD count b 0 ≤ length items
-  pub narrow : (b : ℕ) → b < 256 → getD count b 0 ≤ 64
-  pub ranged : (b j : ℕ) → b < 256 → j < getD count b 0 → ItemRange (getD items (getD first b 0 + j) 0)
-  pub falls : (b j : ℕ) → b < 256 → j < getD count b 0 → typeIn types (getD items (getD first b 0 + j) 0) < getD types b 0
-  pub small : (b : ℕ) → b < 256 → getD types b 0 < 256
+-- what a draw and a descent need, of the plan alone: of the values they need their length, which is in their type
+pub record Sound (plan : List ℕ) : Type 0 where
+  pub inside : (b : ℕ) → b < 256 → firstIn plan b + countIn plan b ≤ 1280
+  pub narrow : (b : ℕ) → b < 256 → countIn plan b ≤ 64
+  pub ranged : (b j : ℕ) → b < 256 → j < countIn plan b → ItemRange (childIn plan b j)
+  pub falls : (b j : ℕ) → b < 256 → j < countIn plan b → typeIn plan (childIn plan b j) < bucketTypeIn plan b
+  pub small : (b : ℕ) → b < 256 → bucketTypeIn plan b < 256
 
--- the same of a hierarchy as it is held
-abbrev pub viewIn : ℕ → Hierarchy → View
-viewIn seed h = viewFrom seed (h .first) (h .count) (h .types) (h .items) (h .weights) (h .acceptance)
+-- ---- the rule
 
-abbrev pub SoundIn : Hierarchy → Type 0
-SoundIn h = Sound (h .first) (h .count) (h .types) (h .items) (h .weights)
-
-abbrev pub actionsIn : Hierarchy → List Action
-actionsIn h = map actionOf (take (h .len) (h .steps))
+abbrev pub actionsIn : Rule → List Action
+actionsIn r = map actionOf (take (r .len) (r .steps))

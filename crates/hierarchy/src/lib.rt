@@ -1,17 +1,34 @@
-// A map as placing reads it: flat arrays, made once per call. No function is here.
+// A map as placing reads it: two flat lists, made once per call. No function is here.
 use definitions::Step;
 
-pub struct Hierarchy {
-    // Of each bucket, by its number: where its children begin in `items` and `weights`, how many they are, and its type.
-    pub first: [u32; 256],
-    pub count: [u32; 256],
-    pub types: [u32; 256],
-    // The children of all buckets, by item number, and their weights.
-    pub items: [u32; 1280],
-    pub weights: [u32; 1280],
-    // Of each device, by its number.
-    pub acceptance: [u32; 1024],
-    // The rule: the first `len` steps.
+// The plan, which no edit changes: of each bucket, by its number, where its children begin among the children of all, how many they are,
+// and its type; the children of all buckets, by item number; the seed.
+pub type Plan = [u32; SEED + 1];
+
+// The values, which an edit changes: of each device, by its number, its acceptance; the weights of the children.
+pub type Values = [u32; SEED];
+
+// Where their sections begin, the first of each at the front. specs/Arrays has the same numbers.
+pub const COUNT: usize = 256;
+
+pub const TYPES: usize = 512;
+
+// From here to the children the plan has room for one more section of the buckets: their kinds.
+pub const TYPES_END: usize = 768;
+
+// The children in the plan, and their weights in the values, begin at one place: a bucket has the same part of both.
+pub const CHILDREN: usize = 1024;
+
+pub const SEED: usize = 2304;
+
+// The rule: the first `len` steps.
+pub struct Rule {
     pub steps: [Step; 16],
     pub len: usize,
+}
+
+pub struct Hierarchy {
+    pub plan: Plan,
+    pub values: Values,
+    pub rule: Rule,
 }

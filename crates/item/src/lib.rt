@@ -35,6 +35,13 @@ impl Item {
         }
     }
 
+    // The item of a number that a frame or a draw gives.
+    pub fn numbered(i: u32) -> Item
+        ensures { λ r. ⌜ r .number ≡ i ⌝ }
+    {
+        Item { number: i }
+    }
+
     pub fn is_bucket(self) -> bool
         ensures { λ r. ⌜ r ≡ isBucket (self .number) ⌝ }
     {

@@ -6,6 +6,9 @@ ghost use Rattle.definitions.specs.Hash.{minus, shiftedBy, right, rows, mixStep
 use definitions::Mix;
 use definitions::Row;
 
+// S of document 01, under every hash.
+pub const SEED: u32 = 1315423911;
+
 // "The shifts are right 13, left 8, right 13; right 12, left 16, right 5; right 3, left 10, right 15."
 const ROWS: [Row; 9] = [
     Row(false, 13),

@@ -8,6 +8,8 @@ pub mod Draw
 pub mod Sparing
 pub mod Questions
 pub mod Loadable
+pub mod Blocks
 pub mod Fuel
 pub mod Walk
 pub mod Forest
+pub mod Found

@@ -19,14 +19,16 @@ use Rattle.definitions.specs.declared.Parting.{Parting}
 use Rattle.definitions.specs.declared.Parting.the-variants.{Same, Draw}
 use Rattle.definitions.specs.Map.{bucketItem, bucketNumber}
 use Rattle.definitions.specs.View.{View}
-use Rattle.definitions.specs.Walk.{Descent, drawAt, landing, onWinner, onDrawn, descendIn, descend, verdictOf, TurnEvents, RankEvents, tryNumber, failedTo, rankStart, onward, afterTurn, onTurn, onLanded, turnOf, rankFrom, rankOf}
+use Rattle.definitions.specs.Walk.{Descent, drawAt, landing, onWinner, onDrawn, descendIn, descend, verdictOf, TurnEvents, RankEvents, failedTo, rankStart, onward, afterTurn, onTurn, rankFrom, rankOf}
 use Rattle.definitions.specs.Edit.{sameDrawn, parting}
+use Rattle.walk.specs.declared.Search.{Search}
+use Rattle.walk.specs.Searches.{tryAt, turnAt, rankAt}
 use Rattle.lockstep.specs.declared.Meeting.{Meeting}
 use Rattle.lockstep.specs.declared.Meeting.the-variants.{Apart, Together}
 use Rattle.lockstep.specs.declared.Round.{Round}
 use Rattle.lockstep.specs.declared.Round.the-variants.{Left, Joined}
 use Rattle.lockstep.specs.Parts.{PartsTo, drawn-eq, parting-self, parts-to, parts-after, parts-before, draws-part}
-use Rattle.lockstep.specs.Lockstep.{Descents, deeper-both, drawn-begins, Turns, testedBoth, round-apart, round-landed, land-none, land-other, land-tested, turn-begins}
+use Rattle.lockstep.specs.Lockstep.{Descents, deeper-both, drawn-begins, Turns, landedAt, fromAt, testedBoth, round-apart, round-landed, land-none, land-other, land-tested, turn-begins}
 
 -- ---- two descents
 
@@ -68,44 +70,48 @@ module _ (v v′ : View) (types : (i : ℕ) → v .type i ≡ v′ .type i) (x t
 abbrev pub Ranks : RankEvents → RankEvents → Type 0
 Ranks a b = (a ≡ b) ⊎ ((p : Parting) × PartsTo (a .events) (b .events) p)
 
-module _ (v v′ : View) (types : (i : ℕ) → v .type i ≡ v′ .type i) (x : ℕ) (mode : Mode) (n t : ℕ) (entries entries′ : List ℕ) (start r : ℕ) where
+module _ (v v′ : View) (types : (i : ℕ) → v .type i ≡ v′ .type i) (x : ℕ) (mode : Mode) (n t : ℕ) (olds news : List ℕ) (start r : ℕ) where
+  -- the rank of both runs, and its turns and what is left of it in each
+  abbrev S : Search
+  S = record { wanted = record { mode = mode; n = n; t = t }; start = start; r = r }
+
   abbrev U : State → TurnEvents
-  U = turnOf v x mode n t entries start r
+  U = turnAt v x S olds
 
   abbrev U′ : State → TurnEvents
-  U′ = turnOf v′ x mode n t entries′ start r
+  U′ = turnAt v′ x S news
 
   abbrev R : ℕ → State → RankEvents
-  R = rankFrom v x mode n t entries start r
+  R = fromAt v x S olds
 
   abbrev R′ : ℕ → State → RankEvents
-  R′ = rankFrom v′ x mode n t entries′ start r
+  R′ = fromAt v′ x S news
 
   -- after descents that landed together
   landed-agree : (s : State) (b : ℕ) (d : Drawn)
-      → (k : Round) × ((es : List Event) → Turns k (onLanded v x mode n t entries start r s b es d) (onLanded v′ x mode n t entries′ start r s b es d))
-  landed-agree s b Nothing = (Joined (Fail (failedTo start s)), land-none v v′ x mode n t entries entries′ start r s b)
+      → (k : Round) × ((es : List Event) → Turns k (landedAt v x S olds s b es d) (landedAt v′ x S news s b es d))
+  landed-agree s b Nothing = (Joined (Fail (failedTo start s)), land-none v v′ x S olds news s b)
   landed-agree s b (Winner i) = go (eqb (v .type i) t) refl
     where
       w : Verdict
-      w = verdictOf v x entries i
+      w = verdictOf v x olds i
 
       w′ : Verdict
-      w′ = verdictOf v′ x entries′ i
+      w′ = verdictOf v′ x news i
 
       go : (u : Bool) → eqb (v .type i) t ≡ u
-          → (k : Round) × ((es : List Event) → Turns k (onLanded v x mode n t entries start r s b es (Winner i)) (onLanded v′ x mode n t entries′ start r s b es (Winner i)))
-      go true e = (testedBoth start s b i w w′, λ es. land-tested v v′ x mode n t entries entries′ start r s b es types i (eqb-true _ _ e) w w′ refl refl)
-      go false e = (Joined (Fail (failedTo start s)), λ es. land-other v v′ x mode n t entries entries′ start r s b es types i (eqb-false _ _ e))
+          → (k : Round) × ((es : List Event) → Turns k (landedAt v x S olds s b es (Winner i)) (landedAt v′ x S news s b es (Winner i)))
+      go true e = (testedBoth start s b i w w′, λ es. land-tested v v′ x S olds news s b es types i (eqb-true _ _ e) w w′ refl refl)
+      go false e = (Joined (Fail (failedTo start s)), λ es. land-other v v′ x S olds news s b es types i (eqb-false _ _ e))
 
   pub turns-agree : (s : State) → (k : Round) × Turns k (U s) (U′ s)
-  turns-agree s = go (descents-agree v v′ types x t (tryNumber mode n r s) (s .at))
+  turns-agree s = go (descents-agree v v′ types x t (tryAt S s) (s .at))
     where
-      go : (m : Meeting) × Descents m (descend v x t (tryNumber mode n r s) (s .at)) (descend v′ x t (tryNumber mode n r s) (s .at)) → (k : Round) × Turns k (U s) (U′ s)
-      go (Apart p, h) = (Left p, round-apart v v′ x mode n t entries entries′ start r s p h)
+      go : (m : Meeting) × Descents m (descend v x t (tryAt S s) (s .at)) (descend v′ x t (tryAt S s) (s .at)) → (k : Round) × Turns k (U s) (U′ s)
+      go (Apart p, h) = (Left p, round-apart v v′ x S olds news s p h)
       go (Together l, h) =
           let (k, g) = landed-agree s (l .bucket) (l .drawn) in
-          (k, round-landed v v′ x mode n t entries entries′ start r s l k h g)
+          (k, round-landed v v′ x S olds news s l k h g)
 
   -- what a round leads to
   round-on : (f f′ : State → RankEvents) → ((s : State) → Ranks (f s) (f′ s)) → (s : State) (a b : TurnEvents) (k : Round) → Turns k a b → Ranks (onTurn f s a) (onTurn f′ s b)
@@ -126,17 +132,22 @@ module _ (v v′ : View) (types : (i : ℕ) → v .type i ≡ v′ .type i) (x :
   ranks-agree (suc k) s = let (m, h) = turns-agree s in round-on (R k) (R′ k) (ranks-agree k) s (U s) (U′ s) m h
 
   module _ (f₀ : ℕ) where
-    agree : Ranks (rankOf v x mode n t entries start r f₀) (rankOf v′ x mode n t entries′ start r f₀)
+    -- the two ranks
+    abbrev W : RankEvents
+    W = rankAt v x S olds f₀
+
+    abbrev W′ : RankEvents
+    W′ = rankAt v′ x S news f₀
+
+    agree : Ranks W W′
     unfolding rankOf
     agree = ranks-agree 50 (rankStart start f₀)
 
     -- ranks that do not part are the same: their events, and what they end in
-    pub same-rank : parting (rankOf v x mode n t entries start r f₀ .events) (rankOf v′ x mode n t entries′ start r f₀ .events) ≡ Same
-        → rankOf v x mode n t entries start r f₀ ≡ rankOf v′ x mode n t entries′ start r f₀
+    pub same-rank : parting (W .events) (W′ .events) ≡ Same → W ≡ W′
     same-rank e = ⊎-elim (λ q. q) (λ k. absurd (k .1 .apart (sym (parts-to (k .1)) ∙ e))) agree
 
     -- ranks that part do so whatever comes behind them
-    pub apart-rank : (p : Parting) → parting (rankOf v x mode n t entries start r f₀ .events) (rankOf v′ x mode n t entries′ start r f₀ .events) ≡ p
-        → (p ≡ Same → ⊥) → PartsTo (rankOf v x mode n t entries start r f₀ .events) (rankOf v′ x mode n t entries′ start r f₀ .events) p
+    pub apart-rank : (p : Parting) → parting (W .events) (W′ .events) ≡ p → (p ≡ Same → ⊥) → PartsTo (W .events) (W′ .events) p
     apart-rank p e h =
         ⊎-elim (λ q. absurd (h (sym e ∙ rw (← q) (parting-self _)))) (λ k. subst (PartsTo _ _) (sym (parts-to (k .1)) ∙ e) (k .1)) agree

@@ -10,7 +10,6 @@ use borrow.Author.Tests.{eq-eqb, ne-eqb}
 use lib.Dec.{ltb, eqb}
 use Rattle.definitions.specs.declared.Drawn.{Drawn}
 use Rattle.definitions.specs.declared.Drawn.the-variants.{Winner, Nothing}
-use Rattle.definitions.specs.declared.Mode.{Mode}
 use Rattle.definitions.specs.declared.Verdict.{Verdict}
 use Rattle.definitions.specs.declared.Event.{Event}
 use Rattle.definitions.specs.declared.Event.the-variants.{Drew, Tested}
@@ -34,7 +33,6 @@ use Rattle.definitions.specs.Walk.{
   verdictOf,
   TurnEvents,
   RankEvents,
-  tryNumber,
   failedTo,
   rankStart,
   onVerdict,
@@ -53,6 +51,8 @@ use Rattle.definitions.specs.Walk.{
 use Rattle.definitions.specs.Edit.{sameDrawn, sameVerdict, parting}
 use Rattle.laws.specs.Fuel.{Sinks, descend-enough, turn-fails}
 use Rattle.laws.specs.Walk.{descend-none, descend-stop, descend-down}
+use Rattle.walk.specs.declared.Search.{Search}
+use Rattle.walk.specs.Searches.{tryAt, turnAt, rankAt}
 use Rattle.lockstep.specs.declared.Meeting.{Meeting}
 use Rattle.lockstep.specs.declared.Meeting.the-variants.{Apart, Together}
 use Rattle.lockstep.specs.declared.Round.{Round}
@@ -128,49 +128,56 @@ abbrev pub Turns : Round → TurnEvents → TurnEvents → Type 0
 Turns (Left p) a b = PartsTo (a .events) (b .events) p
 Turns (Joined u) a b = (a ≡ b) × (a .turn ≡ u)
 
--- the events of a turn begin with those of its descent
-module _ (v : View) (x : ℕ) (mode : Mode) (n t : ℕ) (entries : List ℕ) (start r : ℕ) where
-  landed-begins : (s : State) (b : ℕ) (es : List Event) (d : Drawn)
-      → (fs : List Event) × (onLanded v x mode n t entries start r s b es d .events ≡ es ++ fs)
+module _ (v : View) (x : ℕ) (k : Search) (held : List ℕ) where
+  -- the turn, from where its descent comes to; and the rank from a state on
+  abbrev pub landedAt : State → ℕ → List Event → Drawn → TurnEvents
+  landedAt = onLanded v x (k .wanted .mode) (k .wanted .n) (k .wanted .t) held (k .start) (k .r)
+
+  abbrev pub fromAt : ℕ → State → RankEvents
+  fromAt = rankFrom v x (k .wanted .mode) (k .wanted .n) (k .wanted .t) held (k .start) (k .r)
+
+  -- the events of a turn begin with those of its descent
+  landed-begins : (s : State) (b : ℕ) (es : List Event) (d : Drawn) → (fs : List Event) × (landedAt s b es d .events ≡ es ++ fs)
   unfolding onLanded onType tested untested
   landed-begins s b es Nothing = ([], sym (append-nil es))
-  landed-begins s b es (Winner i) = go (eqb (v .type i) t)
+  landed-begins s b es (Winner i) = go (eqb (v .type i) (k .wanted .t))
     where
-      go : (u : Bool) → (fs : List Event) × (onType v x mode n t entries start r s b es i u .events ≡ es ++ fs)
-      go true = (Tested i (verdictOf v x entries i) ∷ [], refl)
+      go : (u : Bool) → (fs : List Event)
+          × (onType v x (k .wanted .mode) (k .wanted .n) (k .wanted .t) held (k .start) (k .r) s b es i u .events ≡ es ++ fs)
+      go true = (Tested i (verdictOf v x held i) ∷ [], refl)
       go false = ([], sym (append-nil es))
 
 -- what two tests of item i, drawn from bucket b, make of a turn
 abbrev pub testedBoth : ℕ → State → ℕ → ℕ → Verdict → Verdict → Round
 testedBoth start s b i w w′ = cond (sameVerdict w w′) (Joined (onVerdict start s b i w)) (Left (Test w w′))
 
-module _ (v v′ : View) (x : ℕ) (mode : Mode) (n t : ℕ) (entries entries′ : List ℕ) (start r : ℕ) (s : State) where
+module _ (v v′ : View) (x : ℕ) (k : Search) (olds news : List ℕ) (s : State) where
   -- the two runs: the descent of a turn, the turn, and what it makes of where its descent comes to
   abbrev D : Descent
-  D = descend v x t (tryNumber mode n r s) (s .at)
+  D = descend v x (k .wanted .t) (tryAt k s) (s .at)
 
   abbrev D′ : Descent
-  D′ = descend v′ x t (tryNumber mode n r s) (s .at)
+  D′ = descend v′ x (k .wanted .t) (tryAt k s) (s .at)
 
   abbrev U : TurnEvents
-  U = turnOf v x mode n t entries start r s
+  U = turnAt v x k olds s
 
   abbrev U′ : TurnEvents
-  U′ = turnOf v′ x mode n t entries′ start r s
+  U′ = turnAt v′ x k news s
 
   abbrev on : ℕ → List Event → Drawn → TurnEvents
-  on = onLanded v x mode n t entries start r s
+  on = landedAt v x k olds s
 
   abbrev on′ : ℕ → List Event → Drawn → TurnEvents
-  on′ = onLanded v′ x mode n t entries′ start r s
+  on′ = landedAt v′ x k news s
 
   -- the descents part
   pub round-apart : (p : Parting) → Descents (Apart p) D D′ → Turns (Left p) U U′
   unfolding turnOf onDescent
-  round-apart p k =
-      let (xs, q) = landed-begins v x mode n t entries start r s (D .landed .bucket) (D .events) (D .landed .drawn) in
-      let (ys, q′) = landed-begins v′ x mode n t entries′ start r s (D′ .landed .bucket) (D′ .events) (D′ .landed .drawn) in
-      rw (q, q′) (parts-before xs ys k)
+  round-apart p h =
+      let (xs, q) = landed-begins v x k olds s (D .landed .bucket) (D .events) (D .landed .drawn) in
+      let (ys, q′) = landed-begins v′ x k news s (D′ .landed .bucket) (D′ .events) (D′ .landed .drawn) in
+      rw (q, q′) (parts-before xs ys h)
 
   -- the descents land together, and behind one list of events the turns are as m says
   pub round-landed : (l : Landed) (m : Round) → Descents (Together l) D D′
@@ -182,24 +189,24 @@ module _ (v v′ : View) (x : ℕ) (mode : Mode) (n t : ℕ) (entries entries′
 
   module _ (b : ℕ) (es : List Event) where
     -- "a draw that finds none"
-    pub land-none : Turns (Joined (Fail (failedTo start s))) (on b es Nothing) (on′ b es Nothing)
+    pub land-none : Turns (Joined (Fail (failedTo (k .start) s))) (on b es Nothing) (on′ b es Nothing)
     unfolding onLanded untested
     land-none = (refl, refl)
 
     module _ (types : (i : ℕ) → v .type i ≡ v′ .type i) (i : ℕ) where
       -- "a type below t"
-      pub land-other : (v .type i ≡ t → ⊥) → Turns (Joined (Fail (failedTo start s))) (on b es (Winner i)) (on′ b es (Winner i))
+      pub land-other : (v .type i ≡ k .wanted .t → ⊥) → Turns (Joined (Fail (failedTo (k .start) s))) (on b es (Winner i)) (on′ b es (Winner i))
       unfolding onLanded onType untested
-      land-other h = rw (← types i, ne-eqb (v .type i) t h) (refl, refl)
+      land-other h = rw (← types i, ne-eqb (v .type i) (k .wanted .t) h) (refl, refl)
 
       -- "If the type is t, the item is tested": each run has its own acceptance, and its own entries held
-      pub land-tested : v .type i ≡ t → (w w′ : Verdict) → w ≡ verdictOf v x entries i → w′ ≡ verdictOf v′ x entries′ i
-          → Turns (testedBoth start s b i w w′) (on b es (Winner i)) (on′ b es (Winner i))
+      pub land-tested : v .type i ≡ k .wanted .t → (w w′ : Verdict) → w ≡ verdictOf v x olds i → w′ ≡ verdictOf v′ x news i
+          → Turns (testedBoth (k .start) s b i w w′) (on b es (Winner i)) (on′ b es (Winner i))
       unfolding onLanded onType tested
-      land-tested h w w′ g g′ = rw (← types i, eq-eqb (v .type i) t h, ← g, ← g′) (go (sameVerdict w w′) refl)
+      land-tested h w w′ g g′ = rw (← types i, eq-eqb (v .type i) (k .wanted .t) h, ← g, ← g′) (go (sameVerdict w w′) refl)
         where
           go : (u : Bool) → sameVerdict w w′ ≡ u
-              → Turns (cond u (Joined (onVerdict start s b i w)) (Left (Test w w′))) (tested start s b es i w) (tested start s b es i w′)
+              → Turns (cond u (Joined (onVerdict (k .start) s b i w)) (Left (Test w w′))) (tested (k .start) s b es i w) (tested (k .start) s b es i w′)
           go true o = rw (← verdict-eq w w′ o) (refl, refl)
           go false o = parts-after es (tests-part i w w′ [] [] o)
 
@@ -211,10 +218,10 @@ unfolding afterTurn onward
 turn-begins go s es (Fill i) = ([], sym (append-nil es))
 turn-begins go s es (Fail z) = (go z .events, refl)
 
-module _ (v v′ : View) (x : ℕ) (mode : Mode) (n t : ℕ) (entries entries′ : List ℕ) (start r : ℕ) where
-  -- where two ranks part from s on, with k failures left
+module _ (v v′ : View) (x : ℕ) (k : Search) (olds news : List ℕ) where
+  -- where two ranks part from s on, with m failures left
   abbrev pub partFrom : ℕ → State → Parting
-  partFrom k s = parting (rankFrom v x mode n t entries start r k s .events) (rankFrom v′ x mode n t entries′ start r k s .events)
+  partFrom m s = parting (fromAt v x k olds m s .events) (fromAt v′ x k news m s .events)
 
   module _ (s : State) (P : Parting) (lt : s .fr < 50) (from : partFrom (50 - s .fr) s ≡ P) where
     -- one turn of those left
@@ -222,37 +229,37 @@ module _ (v v′ : View) (x : ℕ) (mode : Mode) (n t : ℕ) (entries entries′
     one = let e : suc (50 - (s .fr + 1)) ≡ 50 - s .fr = omega arith in rw e from
 
     -- the turns part: so do the ranks, and there
-    pub rank-parts : (p : Parting) → Turns (Left p) (turnOf v x mode n t entries start r s) (turnOf v′ x mode n t entries′ start r s) → p ≡ P
+    pub rank-parts : (p : Parting) → Turns (Left p) (turnAt v x k olds s) (turnAt v′ x k news s) → p ≡ P
     unfolding rankFrom onTurn
     rank-parts p h =
-        let k : ℕ = 50 - (s .fr + 1) in
-        let a = turnOf v x mode n t entries start r s in
-        let b = turnOf v′ x mode n t entries′ start r s in
-        let (xs, q) = turn-begins (rankFrom v x mode n t entries start r k) s (a .events) (a .turn) in
-        let (ys, q′) = turn-begins (rankFrom v′ x mode n t entries′ start r k) s (b .events) (b .turn) in
+        let m : ℕ = 50 - (s .fr + 1) in
+        let a = turnAt v x k olds s in
+        let b = turnAt v′ x k news s in
+        let (xs, q) = turn-begins (fromAt v x k olds m) s (a .events) (a .turn) in
+        let (ys, q′) = turn-begins (fromAt v′ x k news m) s (b .events) (b .turn) in
         sym (rw (q, q′) (h .ends xs ys)) ∙ one
 
     -- both places are filled
-    pub rank-filled : (i : ℕ) → Turns (Joined (Fill i)) (turnOf v x mode n t entries start r s) (turnOf v′ x mode n t entries′ start r s) → Same ≡ P
+    pub rank-filled : (i : ℕ) → Turns (Joined (Fill i)) (turnAt v x k olds s) (turnAt v′ x k news s) → Same ≡ P
     unfolding rankFrom onTurn afterTurn
     rank-filled i (q, z) = sym (rw (← q, z) (parting-self _)) ∙ one
 
     -- both go on after a failure
-    pub rank-next : (s′ : State) → Turns (Joined (Fail s′)) (turnOf v x mode n t entries start r s) (turnOf v′ x mode n t entries′ start r s)
+    pub rank-next : (s′ : State) → Turns (Joined (Fail s′)) (turnAt v x k olds s) (turnAt v′ x k news s)
         → partFrom (50 - s′ .fr) s′ ≡ P
     unfolding rankFrom onTurn afterTurn onward
     rank-next s′ (q, z) =
-        let one-more = turn-fails v x mode n t entries start r s s′ z in
+        let one-more = turn-fails v x (k .wanted .mode) (k .wanted .n) (k .wanted .t) olds (k .start) (k .r) s s′ z in
         let e : 50 - s′ .fr ≡ 50 - (s .fr + 1) = omega (arith, one-more .0) in
-        ap (λ (k : ℕ). partFrom k s′) e ∙ sym (rw (← q, z) (parting-front (turnOf v x mode n t entries start r s .events) _ _)) ∙ one
+        ap (λ (m : ℕ). partFrom m s′) e ∙ sym (rw (← q, z) (parting-front (turnAt v x k olds s .events) _ _)) ∙ one
 
   -- at fifty failures both end
   pub rank-ended : (s : State) (P : Parting) → 50 ≤ s .fr → partFrom (50 - s .fr) s ≡ P → Same ≡ P
   unfolding rankFrom parting
-  rank-ended s P g from = let e : 50 - s .fr ≡ 0 = omega arith in sym (ap (λ (k : ℕ). partFrom k s) e) ∙ from
+  rank-ended s P g from = let e : 50 - s .fr ≡ 0 = omega arith in sym (ap (λ (m : ℕ). partFrom m s) e) ∙ from
 
   -- the whole rank
-  pub rank-whole : (f₀ : ℕ) → partFrom 50 (record { at = start; fr = 0; f = f₀ })
-      ≡ parting (rankOf v x mode n t entries start r f₀ .events) (rankOf v′ x mode n t entries′ start r f₀ .events)
+  pub rank-whole : (f₀ : ℕ) → partFrom 50 (record { at = k .start; fr = 0; f = f₀ })
+      ≡ parting (rankAt v x k olds f₀ .events) (rankAt v′ x k news f₀ .events)
   unfolding rankOf rankStart
   rank-whole f₀ = refl

@@ -1,5 +1,4 @@
--- What a meeting says of two descents in arrays that differ in the weights alone, whatever the acceptances are: the steps that the
--- descent of both takes. Assumes nothing.
+-- What a meeting says of two descents in one plan with two lists of values: the steps that the descent of both takes. Assumes nothing.
 use mathlib.Core.Path.{_≡_, refl, subst}
 use mathlib.Core.Bool.{false}
 use mathlib.Core.List.{List}
@@ -11,21 +10,17 @@ use Rattle.definitions.specs.declared.Landed.{Landed}
 use Rattle.definitions.specs.declared.Parting.{Parting}
 use Rattle.definitions.specs.declared.Parting.the-variants.{Draw}
 use Rattle.definitions.specs.Map.{bucketNumber}
-use Rattle.definitions.specs.Straw.{drawOf}
 use Rattle.definitions.specs.Walk.{drawAt, descend}
 use Rattle.definitions.specs.Edit.{sameDrawn}
-use Rattle.hierarchy.specs.Arrays.{partOf, typeIn, viewFrom, ItemRange, Sound}
+use Rattle.hierarchy.specs.Arrays.{typeIn, viewIn, ItemRange, Sound}
 use Rattle.descent.specs.Descent.{LandedBounds, sound-sinks}
 use Rattle.lockstep.specs.declared.Meeting.{Meeting}
 use Rattle.lockstep.specs.declared.Meeting.the-variants.{Apart, Together}
 use Rattle.lockstep.specs.Lockstep.{Descents, meet-apart, meet-none, meet-stop, meet-down}
 
--- m is the meeting of the descents from bucket b by the one list of weights and by the other
-unfoldable pub Meets : ℕ → List ℕ → List ℕ → List ℕ → List ℕ → List ℕ → List ℕ → ℕ → ℕ → ℕ → ℕ → Meeting → Type 0
-Meets seed first count types items weights weights′ x t r b m =
-    (acceptance acceptance′ : List ℕ)
-    → Descents m (descend (viewFrom seed first count types items weights acceptance) x t r b)
-    (descend (viewFrom seed first count types items weights′ acceptance′) x t r b)
+-- m is the meeting of the descents from bucket b by the one list of values and by the other
+abbrev pub Meets : List ℕ → List ℕ → List ℕ → ℕ → ℕ → ℕ → ℕ → Meeting → Type 0
+Meets plan old new x t r b m = Descents m (descend (viewIn plan old) x t r b) (descend (viewIn plan new) x t r b)
 
 -- descents that land together land in the map
 abbrev pub MeetingBounds : Meeting → Type 0
@@ -44,27 +39,22 @@ none-bounds b h = together-bounds _ (h, λ i q. absurd (let z : _≡_ {A = ℕ} 
 pub winner-bounds : (b i : ℕ) → b < 256 → ItemRange i → MeetingBounds (Together (record { bucket = b; drawn = Winner i }))
 winner-bounds b i h g = together-bounds _ (h, λ j q. let e : i ≡ j = cc in subst ItemRange e g)
 
-module _ {first count types items weights weights′ : List ℕ} (sound : Sound first count types items weights)
-    (sound′ : Sound first count types items weights′) (seed x t r b : ℕ) where
+module _ {plan : List ℕ} (sound : Sound plan) (old new : List ℕ) (x t r b : ℕ) where
   abbrev drawn : List ℕ → Drawn
-  drawn ws = drawOf seed x r (partOf first count b items) (partOf first count b ws)
+  drawn vs = drawAt (viewIn plan vs) x r b
 
   abbrev Met : ℕ → Meeting → Type 0
-  Met = Meets seed first count types items weights weights′ x t r
+  Met = Meets plan old new x t r
 
-  pub meets-apart : (d d′ : Drawn) → drawn weights ≡ d → drawn weights′ ≡ d′ → sameDrawn d d′ ≡ false → Met b (Apart (Draw d d′))
-  unfolding Meets drawAt
-  meets-apart d d′ e e′ h a a′ = meet-apart _ _ (λ i. refl) (sound-sinks sound seed a) (sound-sinks sound′ seed a′) x t r b d d′ e e′ h
+  pub meets-apart : (d d′ : Drawn) → drawn old ≡ d → drawn new ≡ d′ → sameDrawn d d′ ≡ false → Met b (Apart (Draw d d′))
+  meets-apart d d′ e e′ h = meet-apart _ _ (λ i. refl) (sound-sinks sound old) (sound-sinks sound new) x t r b d d′ e e′ h
 
-  pub meets-none : drawn weights ≡ Nothing → drawn weights′ ≡ Nothing → Met b (Together (record { bucket = b; drawn = Nothing }))
-  unfolding Meets drawAt
-  meets-none e e′ a a′ = meet-none _ _ (λ i. refl) (sound-sinks sound seed a) (sound-sinks sound′ seed a′) x t r b e e′
+  pub meets-none : drawn old ≡ Nothing → drawn new ≡ Nothing → Met b (Together (record { bucket = b; drawn = Nothing }))
+  meets-none e e′ = meet-none _ _ (λ i. refl) (sound-sinks sound old) (sound-sinks sound new) x t r b e e′
 
-  module _ (i : ℕ) (e : drawn weights ≡ Winner i) (e′ : drawn weights′ ≡ Winner i) where
-    pub meets-stop : typeIn types i ≤ t → Met b (Together (record { bucket = b; drawn = Winner i }))
-    unfolding Meets drawAt
-    meets-stop l a a′ = meet-stop _ _ (λ i. refl) (sound-sinks sound seed a) (sound-sinks sound′ seed a′) x t r b i e e′ l
+  module _ (i : ℕ) (e : drawn old ≡ Winner i) (e′ : drawn new ≡ Winner i) where
+    pub meets-stop : typeIn plan i ≤ t → Met b (Together (record { bucket = b; drawn = Winner i }))
+    meets-stop l = meet-stop _ _ (λ i. refl) (sound-sinks sound old) (sound-sinks sound new) x t r b i e e′ l
 
-    pub meets-down : (m : Meeting) → t < typeIn types i → Met (bucketNumber i) m → Met b m
-    unfolding Meets drawAt
-    meets-down m l rest a a′ = meet-down _ _ (λ i. refl) (sound-sinks sound seed a) (sound-sinks sound′ seed a′) x t r b i m e e′ l (rest a a′)
+    pub meets-down : (m : Meeting) → t < typeIn plan i → Met (bucketNumber i) m → Met b m
+    meets-down m l rest = meet-down _ _ (λ i. refl) (sound-sinks sound old) (sound-sinks sound new) x t r b i m e e′ l rest

@@ -1,7 +1,6 @@
 -- The line of a move, field by field. Assumes nothing.
 use mathlib.Core.Path.{_≡_}
-use mathlib.Core.List.{List, [], _∷_, _++_, append-nil, append-assoc}
-use Prim.Native.Nat.{ℕ}
+use mathlib.Core.List.{[], _∷_, _++_, append-nil, append-assoc}
 use lib.ListN.{length, length-append}
 use Rattle.definitions.specs.declared.Move.{Move}
 use Rattle.definitions.specs.Frames.{hex, written}

@@ -1,4 +1,4 @@
-// Two descents from one bucket, by the old weights and by the new, made at once.
+// Two descents from one bucket, by the old values and by the new, made at once.
 ghost use Prim.Native.Nat.{_<_};
 ghost use Rattle.hierarchy.specs.Arrays.{Sound};
 ghost use Rattle.lockstep.specs.Meets.{Meets, MeetingBounds};
@@ -7,31 +7,26 @@ use crate::partings;
 use definitions::Drawn;
 use definitions::Landed;
 use definitions::Parting;
+use hierarchy::Plan;
+use hierarchy::Values;
 use item::Item;
 
 // One draw of each run at a time: they part where the two ends differ, and go down together where they are one.
 pub fn meet<'a>(
-    first: &'a [u32],
-    count: &'a [u32],
-    types: &'a [u32],
-    items: &'a [u32],
-    weights: &'a [u32],
-    weights2: &'a [u32],
-    seed: u32,
+    plan: &'a Plan,
+    old: &'a Values,
+    new: &'a Values,
     x: u32,
     t: u32,
     r: u32,
     b: u32,
 ) -> Meeting
-    requires { ⌜ Sound (now first) (now count) (now types) (now items) (now weights) ⌝ }
-    requires { ⌜ Sound (now first) (now count) (now types) (now items) (now weights2) ⌝ }
-    requires { ⌜ b < 256 ⌝ }
-    ensures { λ m. ⌜ Meets seed (now (first .entry)) (now (count .entry)) (now (types .entry)) (now (items .entry))
-        (now (weights .entry)) (now (weights2 .entry)) x t r b m ⌝ }
+    requires { ⌜ Sound (now plan) × (b < 256) ⌝ }
+    ensures { λ m. ⌜ Meets (now (plan .entry)) (now (old .entry)) (now (new .entry)) x t r b m ⌝ }
     ensures bounds { λ m. ⌜ MeetingBounds m ⌝ }
 {
-    let d = descent::draw_at(first, count, items, weights, seed, x, r, b);
-    let d2 = descent::draw_at(first, count, items, weights2, seed, x, r, b);
+    let d = descent::draw_at(plan, old, x, r, b);
+    let d2 = descent::draw_at(plan, new, x, r, b);
     if !partings::same_drawn(d, d2) {
         return Meeting::Apart(Parting::Draw(d, d2));
     }
@@ -41,22 +36,10 @@ pub fn meet<'a>(
             drawn: Drawn::Nothing,
         });
     };
-    if t < descent::type_of(types, i) {
-        let child = Item { number: i };
+    if t < descent::type_of(plan, i) {
+        let child = Item::numbered(i);
         let c = child.bucket_number();
-        meet(
-            first,
-            count,
-            types,
-            items,
-            weights,
-            weights2,
-            seed,
-            x,
-            t,
-            r,
-            c,
-        )
+        meet(plan, old, new, x, t, r, c)
     } else {
         Meeting::Together(Landed {
             bucket: b,

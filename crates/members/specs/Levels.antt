@@ -47,6 +47,10 @@ pub slot-bucket : (i : ℕ) → 65536 ≤ i → i - 65536 + 1024 ≡ slotOf i
 unfolding slotOf
 slot-bucket i h = rw (le-leb 65536 i h)
 
+-- that of bucket b
+pub slot-number : (b : ℕ) → slotOf (bucketItem b) ≡ b + 1024
+slot-number b = let z : bucketItem b - 65536 ≡ b = omega arith in sym (slot-bucket (bucketItem b) (omega arith)) ∙ ap (λ (n : ℕ). n + 1024) z
+
 pub slot-small : (i : ℕ) → ChildRanged i → slotOf i < 1280
 slot-small i (inl a) = rw (← slot-device i (omega arith)) (omega arith)
 slot-small i (inr (a, b)) = rw (← slot-bucket i a) (omega arith)

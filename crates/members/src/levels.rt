@@ -16,20 +16,21 @@ use item::Item;
 use text::Shape;
 
 // The slot of an item, devices first.
-pub fn slot(item: u32) -> usize
-    requires { ⌜ ChildRanged item ⌝ }
-    ensures { λ r. ⌜ (r ≡ slotOf item) × (r < 1280) ⌝ }
+pub fn slot(item: Item) -> usize
+    requires { ⌜ ChildRanged (item .number) ⌝ }
+    ensures { λ r. ⌜ (r ≡ slotOf (item .number)) × (r < 1280) ⌝ }
 {
-    if item < Item::BUCKET_BASE {
-        return item as usize;
+    if item.is_bucket() {
+        (item.bucket_number() + Item::DEVICES) as usize
+    } else {
+        item.number as usize
     }
-    (item - Item::BUCKET_BASE + Item::DEVICES) as usize
 }
 
 // The level of an item, from the table.
-pub fn level(levels: &[u32], item: u32) -> u32
-    requires { ⌜ (length (now levels) ≡ 1280) × ChildRanged item ⌝ }
-    ensures { λ r. ⌜ r ≡ levelAt (now (levels .entry)) item ⌝ }
+pub fn level(levels: &[u32], item: Item) -> u32
+    requires { ⌜ (length (now levels) ≡ 1280) × ChildRanged (item .number) ⌝ }
+    ensures { λ r. ⌜ r ≡ levelAt (now (levels .entry)) (item .number) ⌝ }
 {
     levels[slot(item)]
 }
@@ -39,7 +40,7 @@ pub fn bucket_level(levels: &[u32], b: u32) -> u32
     requires { ⌜ (length (now levels) ≡ 1280) × (b ≤ 255) ⌝ }
     ensures { λ r. ⌜ r ≡ levelAt (now (levels .entry)) (bucketItem b) ⌝ }
 {
-    level(levels, Item::BUCKET_BASE + b)
+    level(levels, Item::bucket(b))
 }
 
 // The table with the devices that are present, at level 1.
@@ -52,7 +53,7 @@ fn put_devices(t: &[u8], s: Shape) -> [u32; 1280]
     let mut k: usize = 0;
     while k < n {
         let d = records::device(t, k);
-        let i = d.number as usize;
+        let i = slot(Item::device(d.number));
         table[i] = 1;
         k += 1;
     }
@@ -69,7 +70,7 @@ fn put_buckets(t: &[u8], s: Shape, devices: [u32; 1280]) -> [u32; 1280]
     let mut k: usize = 0;
     while k < n {
         let b = records::bucket(t, s, k);
-        let i = (b.number + Item::DEVICES) as usize;
+        let i = slot(Item::bucket(b.number));
         table[i] = b.ty + 1;
         k += 1;
     }

@@ -8,6 +8,7 @@ ghost use Rattle.text.specs.Shape.{shapeOf};
 ghost use Rattle.text.specs.RoundTrip.{Framed};
 use crate::levels;
 use frames::records;
+use item::Item;
 use text::Shape;
 
 // A table of the children seen, so that each link is looked at once.
@@ -20,7 +21,7 @@ pub fn once(t: &[u8], s: Shape) -> bool
     let mut k: usize = 0;
     while k < n {
         let l = records::link(t, s, k);
-        let i = levels::slot(l.child);
+        let i = levels::slot(Item::numbered(l.child));
         if seen[i] {
             return false;
         }

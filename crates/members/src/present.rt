@@ -14,6 +14,7 @@ ghost use Rattle.members.specs.Levels.{Levels};
 ghost use Rattle.members.specs.Present.{linkPresent, stepPresent};
 use crate::levels;
 use frames::records;
+use item::Item;
 use text::Shape;
 
 // Whether both items of link k are present.
@@ -26,7 +27,7 @@ fn link_present(t: &[u8], s: Shape, levels: &[u32], k: usize) -> bool
     if levels::bucket_level(levels, l.bucket) == 0 {
         return false;
     }
-    0 < levels::level(levels, l.child)
+    0 < levels::level(levels, Item::numbered(l.child))
 }
 
 fn links_present(t: &[u8], s: Shape, levels: &[u32]) -> bool

@@ -125,6 +125,12 @@ module _ (v : View) (x : ℕ) (mode : Mode) (n t : ℕ) where
   unfolding selectOf bareSelect entriesOf
   select-bare ps = to-bare ps (length ps) ∙ ap (bareTo v x mode n t (entriesOf ps)) (sym (length-map ps (λ (p : Place). p .entry)))
 
+-- every list of entries is that of some places
+pub walkless : (es : List ℕ) → (ps : List Place) × (entriesOf ps ≡ es)
+unfolding entriesOf
+walkless [] = ([], refl)
+walkless (e ∷ es) = let (ps, q) = walkless es in (record { entry = e; walk = [] } ∷ ps, ap (λ (l : List ℕ). e ∷ l) q)
+
 -- ---- rule
 
 -- the entries of the working list, those emitted so far, and the tries so far
@@ -155,7 +161,7 @@ unfoldable pub filledUp : ℕ → List ℕ → List ℕ
 filledUp w es = es ++ replicate (w - length es) hole
 
 module _ (v : View) (x : ℕ) where
-  act-bare : (s : Run) (a : Action) → bareRunOf (act v x s a) ≡ bareAct v x (bareRunOf s) a
+  pub act-bare : (s : Run) (a : Action) → bareRunOf (act v x s a) ≡ bareAct v x (bareRunOf s) a
   unfolding act bareAct taken entriesOf selected bareSelected
   act-bare s (Take b) = refl
   act-bare s (Select mode n t) = ap (bareSelected (bareRunOf s)) (select-bare v x mode n t (s .working))

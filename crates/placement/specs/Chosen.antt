@@ -97,11 +97,11 @@ holes-more s i =
 -- ---- loops over the ranks and over the working list
 
 module _ (v : View) (x : ℕ) (mode : Mode) (n t : ℕ) where
-  -- a rank that ended in k
-  pub rank-is : (a r : ℕ) (s d : Bare) (k : Ranked) → k ≡ rankOf v x mode n t (s .entries) (bucketNumber a) r (s .f) .ranked
+  -- a rank, started at b, that ended in k
+  pub rank-is : (a r : ℕ) (s d : Bare) (b : ℕ) (k : Ranked) → b ≡ bucketNumber a → k ≡ rankOf v x mode n t (s .entries) b r (s .f) .ranked
       → d ≡ bareWith mode s k → d ≡ bareRank v x mode n t a r s
   unfolding bareRank
-  rank-is a r s d k e q = q ∙ ap (bareWith mode s) e
+  rank-is a r s d b k g e q = q ∙ ap (bareWith mode s) (rw g at e)
 
   -- f is 0 before the first rank, whatever it was
   ranks-fresh : (a : ℕ) (s : Bare) (k : ℕ)

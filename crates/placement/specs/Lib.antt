@@ -2,7 +2,6 @@
 pub mod Bare
 pub mod Entries
 pub mod Chosen
-pub mod Found
 pub mod Ruled
 pub mod Working
 pub mod Progress

@@ -1,6 +1,6 @@
 -- What the code keeps of a run, as the run without its walks. Assumes nothing.
 use mathlib.Core.Path.{_≡_, refl, sym, ap, _∙_}
-use mathlib.Core.List.{List, [], _∷_, map}
+use mathlib.Core.List.{List, [], _∷_}
 use Prim.Native.Nat.{ℕ, _+_, _*_, _<_, _≤_}
 use native.Mathlib.Omega.{arith}
 use native.Mathlib.Numerals.{add-one}
@@ -13,7 +13,8 @@ use Rattle.definitions.specs.declared.Mode.{Mode}
 use Rattle.definitions.specs.declared.Step.{Step}
 use Rattle.definitions.specs.Map.{bucketItem, actionOf}
 use Rattle.definitions.specs.View.{View}
-use Rattle.hierarchy.specs.Arrays.{viewFrom}
+use Rattle.hierarchy.specs.declared.Rule.{Rule}
+use Rattle.hierarchy.specs.Arrays.{viewIn, actionsIn}
 use Rattle.laws.specs.Lists.{getD-mapped}
 use Rattle.blocks.specs.Products.{productAfter, addedBy, productTo, emittedTo}
 use Rattle.placement.specs.declared.rule.Progress.{Progress}
@@ -21,10 +22,6 @@ use Rattle.placement.specs.Bare.{Bare, BareRun, bareSelect, bareSelected
 use Rattle.placement.specs.Entries.{Each}
 use Rattle.placement.specs.Ruled.{Keeps, Ready, reachedTo}
 use Rattle.placement.specs.Working.{Workable, working-workable}
-
--- the actions of the first n steps
-abbrev pub actionsTo : List Step → ℕ → List Action
-actionsTo steps n = map actionOf (take n steps)
 
 -- the two lists are the first of the arrays
 abbrev pub runIn : Progress → BareRun
@@ -86,12 +83,13 @@ paste-more d at s j e h g q = rw (q, add-one j) (paste-suc d at s j 0 h g)
 
 -- ---- a loop over the steps
 
-pub length-actions : (steps : List Step) (n : ℕ) → n ≤ length steps → length (actionsTo steps n) ≡ n
-length-actions steps n h = length-map (take n steps) actionOf ∙ length-take-le n steps h
+pub length-actions : (r : Rule) → r .len ≤ length (r .steps) → length (actionsIn r) ≡ r .len
+length-actions r h = length-map (take (r .len) (r .steps)) actionOf ∙ length-take-le (r .len) (r .steps) h
 
-pub action-at : (steps : List Step) (n k : ℕ) (d : Step) → n ≤ length steps → k < n → actionOf (getD steps k d) ≡ getD (actionsTo steps n) k Idle
-action-at steps n k d h l =
-    ap actionOf (sym (getD-take n steps k d l)) ∙ sym (getD-mapped actionOf (take n steps) k d Idle (omega (arith, length-take-le n steps h)))
+pub action-at : (r : Rule) (k : ℕ) (d : Step) → r .len ≤ length (r .steps) → k < r .len → actionOf (getD (r .steps) k d) ≡ getD (actionsIn r) k Idle
+action-at r k d h l =
+    ap actionOf (sym (getD-take (r .len) (r .steps) k d l))
+    ∙ sym (getD-mapped actionOf (take (r .len) (r .steps)) k d Idle (omega (arith, length-take-le (r .len) (r .steps) h)))
 
 -- p is where the first k actions lead
 pub record Ran (v : View) (x : ℕ) (actions : List Action) (k : ℕ) (p : Progress) : Type 0 where
@@ -133,15 +131,14 @@ module _ (v : View) (x : ℕ) (actions : List Action) where
       })
 
 -- where the rule is kept to, the next action can be done
-module _ {seed : ℕ} {first count types items weights acceptance : List ℕ} {actions : List Action}
-    (ready : Ready seed first count types items weights acceptance actions) (x : ℕ) where
+module _ {plan values : List ℕ} {actions : List Action} (ready : Ready plan values actions) (x : ℕ) where
   abbrev v : View
-  v = viewFrom seed first count types items weights acceptance
+  v = viewIn plan values
 
   pub doable : (k : ℕ) (p : Progress) (a : Action) → k < length actions → a ≡ getD actions k Idle → Ran v x actions k p → Doable p a
   doable k p a h e r = go a (rw (← e) at (ready .ruled .keeps k h))
     where
-      go : (b : Action) → Keeps types (productTo actions k) (emittedTo actions k) (reachedTo types actions k) b → Doable p b
+      go : (b : Action) → Keeps plan (productTo actions k) (emittedTo actions k) (reachedTo plan actions k) b → Doable p b
       go (Take b) q = q .0
       go (Select mode n t) q = (
         q .0,

@@ -1,46 +1,38 @@
 -- What a rule and the arrays must keep to, so that a run stays within the space for it and its list holds devices and holes alone.
 use mathlib.Core.Path.{_≡_}
 use mathlib.Core.List.{List}
-use Prim.Native.Nat.{ℕ, zero, suc, _+_, _*_, _<_, _≤_}
+use Prim.Native.Nat.{ℕ, _+_, _*_, _<_, _≤_}
 use lib.ListN.{length, getD}
 use Rattle.definitions.specs.declared.Action.{Action}
 use Rattle.definitions.specs.declared.Action.the-variants.{Take, Select, Emit, Idle}
 use Rattle.definitions.specs.declared.Drawn.the-variants.{Winner}
 use Rattle.definitions.specs.View.{View}
 use Rattle.definitions.specs.Walk.{drawAt}
-use Rattle.hierarchy.specs.Arrays.{viewFrom, Sound}
+use Rattle.hierarchy.specs.Arrays.{bucketTypeIn, viewIn, Sound}
+use Rattle.laws.specs.Blocks.{reached}
 use Rattle.blocks.specs.Products.{productTo, emittedTo}
 
--- the type reached, u before it, after one action more
-unfoldable pub reachedAfter : List ℕ → ℕ → Action → ℕ
-reachedAfter types u (Take b) = getD types b 0
-reachedAfter types u (Select mode n t) = t
-reachedAfter types u Emit = u
-reachedAfter types u Idle = u
-
 -- the type reached after the first k actions
-unfoldable pub reachedTo : List ℕ → List Action → ℕ → ℕ
-reachedTo types actions zero = 0
-reachedTo types actions (suc k) = reachedAfter types (reachedTo types actions k) (getD actions k Idle)
+abbrev pub reachedTo : List ℕ → List Action → ℕ → ℕ
+reachedTo plan actions k = reached (bucketTypeIn plan) actions k
 
 -- what an action keeps to: p is the most places that the working list can have, e the most that are emitted, and u the type reached
 abbrev pub Keeps : List ℕ → ℕ → ℕ → ℕ → Action → Type 0
-Keeps types p e u (Take b) = (b < 256) × (0 < getD types b 0)
-Keeps types p e u (Select mode n t) = (1 ≤ n) × (n ≤ 16) × (p * n ≤ 16) × (0 < u)
-Keeps types p e u Emit = (e + p ≤ 32) × (u ≡ 0)
-Keeps types p e u Idle = Unit {0}
+Keeps plan p e u (Take b) = (b < 256) × (0 < bucketTypeIn plan b)
+Keeps plan p e u (Select mode n t) = (1 ≤ n) × (n ≤ 16) × (p * n ≤ 16) × (0 < u)
+Keeps plan p e u Emit = (e + p ≤ 32) × (u ≡ 0)
+Keeps plan p e u Idle = Unit {0}
 
-pub record Ruled (types : List ℕ) (actions : List Action) : Type 0 where
+pub record Ruled (plan : List ℕ) (actions : List Action) : Type 0 where
   pub keeps : (k : ℕ) → k < length actions
-      → Keeps types (productTo actions k) (emittedTo actions k) (reachedTo types actions k) (getD actions k Idle)
+      → Keeps plan (productTo actions k) (emittedTo actions k) (reachedTo plan actions k) (getD actions k Idle)
 
 -- a bucket that is drawn has a type above 0, so what is drawn and has type 0 is a device
 pub record Grounded (v : View) : Type 0 where
   pub above : (x r b i : ℕ) → drawAt v x r b ≡ Winner i → 65536 ≤ i → 0 < v .type i
 
 -- what a run needs of the arrays and of the rule
-pub record Ready (seed : ℕ) (first count types items weights acceptance : List ℕ) (actions : List Action) : Type 0 where
-  pub sound : Sound first count types items weights
-  pub accepting : length acceptance ≡ 1024
-  pub grounded : Grounded (viewFrom seed first count types items weights acceptance)
-  pub ruled : Ruled types actions
+pub record Ready (plan values : List ℕ) (actions : List Action) : Type 0 where
+  pub sound : Sound plan
+  pub grounded : Grounded (viewIn plan values)
+  pub ruled : Ruled plan actions

@@ -1,21 +1,25 @@
 // Document 01, "Walk, select and rule": the rule's steps, and a group's list with its tries.
 ghost use mathlib.Core.Path.{_≡_};
+ghost use mathlib.Core.List.{List};
 ghost use Prim.Native.Nat.{ℕ, _+_, _<_, _≤_};
 ghost use lib.ListN.{length, getD};
+ghost use lib.Seq.{paste};
 ghost use Rattle.definitions.specs.View.{View};
 ghost use Rattle.definitions.specs.Walk.{hole};
-ghost use Rattle.hierarchy.specs.Arrays.{viewFrom, Sound};
+ghost use Rattle.hierarchy.specs.Arrays.{viewIn, Sound, actionsIn};
 ghost use Rattle.blocks.specs.Products.{emittedTo};
 ghost use Rattle.placement.specs.Bare.{bareAct, bareRunTo, filledUp};
 ghost use Rattle.placement.specs.Entries.{Each};
 ghost use Rattle.placement.specs.Working.{Small};
 ghost use Rattle.placement.specs.Ruled.{Ready};
-ghost use Rattle.placement.specs.Progress.{runIn, Room, Doable, Stepped, actionsTo};
+ghost use Rattle.placement.specs.Progress.{runIn, Room, Doable, Stepped, Ran};
 use crate::select;
 use blocks::actions;
 use definitions::Action;
 use definitions::Mode;
-use definitions::Step;
+use hierarchy::Plan;
+use hierarchy::Rule;
+use hierarchy::Values;
 use item::Item;
 
 // The working list (the first `len` entries), the list emitted so far (the first `emitted`), and the tries so far.
@@ -47,42 +51,21 @@ fn take_bucket(p: Progress, b: u32) -> Progress
 
 // The select's entries become the working list.
 fn selected<'a>(
-    first: &'a [u32],
-    count: &'a [u32],
-    types: &'a [u32],
-    items: &'a [u32],
-    weights: &'a [u32],
-    acceptance: &'a [u32],
-    seed: u32,
+    plan: &'a Plan,
+    values: &'a Values,
     x: u32,
     p: Progress,
     mode: Mode,
     n: u32,
     t: u32,
 ) -> Progress
-    requires { ⌜ Sound (now first) (now count) (now types) (now items) (now weights) ⌝ }
-    requires { ⌜ (length (now acceptance) ≡ 1024) × Room p × (p .tries ≤ 1000000) × Doable p (Action.Select mode n t) ⌝ }
-    ensures { λ q. ⌜ (runIn q ≡ bareAct
-        (viewFrom seed (now (first .entry)) (now (count .entry)) (now (types .entry)) (now (items .entry)) (now (weights .entry)) (now (acceptance .entry)))
-        x (runIn p) (Action.Select mode n t)) × Room q × Stepped p (Action.Select mode n t) q ⌝ }
+    requires { ⌜ Sound (now plan) ⌝ }
+    requires { ⌜ Room p × (p .tries ≤ 1000000) × Doable p (Action.Select mode n t) ⌝ }
+    ensures { λ q. ⌜ (runIn q ≡ bareAct (viewIn (now (plan .entry)) (now (values .entry))) x (runIn p) (Action.Select mode n t)) × Room q × Stepped p (Action.Select mode n t) q ⌝ }
 {
     let list = p.list;
     let working = p.working;
-    let c = select::select(
-        first,
-        count,
-        types,
-        items,
-        weights,
-        acceptance,
-        seed,
-        x,
-        working,
-        p.len,
-        mode,
-        n,
-        t,
-    );
+    let c = select::select(plan, values, x, working, p.len, mode, n, t);
     let entries = c.entries;
     Progress {
         working: entries,
@@ -93,109 +76,75 @@ fn selected<'a>(
     }
 }
 
+// A list with the first `len` entries of the working list behind its first `at`.
+pub fn append(mut list: [u32; 32], at: usize, working: [u32; 16], len: usize) -> [u32; 32]
+    requires { ⌜ (len ≤ 16) × (at + len ≤ 32) ⌝ }
+    ensures { λ r. ⌜ r ≡ paste list at working len ⌝ }
+{
+    let mut j: usize = 0;
+    while j < len {
+        list[at + j] = working[j];
+        j += 1;
+    }
+    list
+}
+
 // "Emit appends the working list."
 fn emit(p: Progress) -> Progress
     requires { ⌜ Room p × (p .emitted + p .len ≤ 32) ⌝ }
     ensures { λ q. ⌜ ((v : View) (x : ℕ) → runIn q ≡ bareAct v x (runIn p) Action.Emit) × Room q × Stepped p Action.Emit q ⌝ }
 {
     let working = p.working;
-    let mut list = p.list;
-    let start = p.emitted;
-    let len = p.len;
-    let mut j: usize = 0;
-    while j < len {
-        list[start + j] = working[j];
-        j += 1;
-    }
+    let list = p.list;
+    let longer = append(list, p.emitted, working, p.len);
     Progress {
         working: working,
-        len: len,
-        list: list,
-        emitted: start + len,
+        len: p.len,
+        list: longer,
+        emitted: p.emitted + p.len,
         tries: p.tries,
     }
 }
 
 // One step more.
-fn act<'a>(
-    first: &'a [u32],
-    count: &'a [u32],
-    types: &'a [u32],
-    items: &'a [u32],
-    weights: &'a [u32],
-    acceptance: &'a [u32],
-    seed: u32,
-    x: u32,
-    p: Progress,
-    a: Action,
-) -> Progress
-    requires { ⌜ Sound (now first) (now count) (now types) (now items) (now weights) ⌝ }
-    requires { ⌜ (length (now acceptance) ≡ 1024) × Room p × (p .tries ≤ 1000000) × Doable p a ⌝ }
-    ensures { λ q. ⌜ (runIn q ≡ bareAct
-        (viewFrom seed (now (first .entry)) (now (count .entry)) (now (types .entry)) (now (items .entry)) (now (weights .entry)) (now (acceptance .entry)))
-        x (runIn p) a) × Room q × Stepped p a q ⌝ }
+pub fn act<'a>(plan: &'a Plan, values: &'a Values, x: u32, p: Progress, a: Action) -> Progress
+    requires { ⌜ Sound (now plan) ⌝ }
+    requires { ⌜ Room p × (p .tries ≤ 1000000) × Doable p a ⌝ }
+    ensures { λ q. ⌜ (runIn q ≡ bareAct (viewIn (now (plan .entry)) (now (values .entry))) x (runIn p) a) × Room q × Stepped p a q ⌝ }
 {
     match a {
         Action::Take(b) => take_bucket(p, b),
-        Action::Select(mode, n, t) => selected(
-            first,
-            count,
-            types,
-            items,
-            weights,
-            acceptance,
-            seed,
-            x,
-            p,
-            mode,
-            n,
-            t,
-        ),
+        Action::Select(mode, n, t) => selected(plan, values, x, p, mode, n, t),
         Action::Emit => emit(p),
         Action::Idle => p,
     }
 }
 
-// The first n steps of the rule, for group x.
-pub fn run<'a>(
-    first: &'a [u32],
-    count: &'a [u32],
-    types: &'a [u32],
-    items: &'a [u32],
-    weights: &'a [u32],
-    acceptance: &'a [u32],
-    seed: u32,
-    steps: [Step; 16],
-    n: usize,
-    x: u32,
-) -> Progress
-    requires { ⌜ (n ≤ 16) × Ready seed (now first) (now count) (now types) (now items) (now weights) (now acceptance) (actionsTo steps n) ⌝ }
-    ensures { λ p. ⌜ (runIn p ≡ bareRunTo
-        (viewFrom seed (now (first .entry)) (now (count .entry)) (now (types .entry)) (now (items .entry)) (now (weights .entry)) (now (acceptance .entry)))
-        x (actionsTo steps n) n) × (p .emitted ≤ 32) × (p .emitted ≤ emittedTo (actionsTo steps n) n) ⌝ }
+// A run of which no step is made yet.
+pub fn start() -> Progress
+    ensures { λ p. ⌜ ((v : View) (x : ℕ) (actions : List Action) → Ran v x actions 0 p) × (p .len ≡ 0) × (p .emitted ≡ 0) ⌝ }
 {
-    let mut p = Progress {
+    Progress {
         working: [walk::HOLE; 16],
         len: 0,
         list: [walk::HOLE; 32],
         emitted: 0,
         tries: 0,
-    };
+    }
+}
+
+// The steps of the rule, for group x.
+pub fn run<'a>(plan: &'a Plan, values: &'a Values, rule: Rule, x: u32) -> Progress
+    requires { ⌜ (rule .len ≤ 16) × Ready (now plan) (now values) (actionsIn rule) ⌝ }
+    ensures { λ p. ⌜ (runIn p ≡ bareRunTo (viewIn (now (plan .entry)) (now (values .entry))) x (actionsIn rule) (rule .len)) × (p .emitted ≤ 32) × (p .emitted ≤ emittedTo (actionsIn rule) (rule .len)) ⌝ }
+{
+    let mut p = start();
+    let steps = rule.steps;
+    let n = rule.len;
     let mut k: usize = 0;
     while k < n {
         let a = actions::action_of(steps[k]);
-        p = act(
-            first,
-            count,
-            types,
-            items,
-            weights,
-            acceptance,
-            seed,
-            x,
-            p,
-            a,
-        );
+        p = act(plan, values, x, p, a);
         k += 1;
     }
     p
@@ -224,40 +173,19 @@ fn write_row(list: &[u32], row: &mut [u16])
     }
 }
 
-// Writes the list of group x over the whole row, by the first n steps of the rule, and returns its tries.
+// Writes the list of group x over the whole row, and returns its tries.
 pub fn place_row<'a, 'b>(
-    first: &'a [u32],
-    count: &'a [u32],
-    types: &'a [u32],
-    items: &'a [u32],
-    weights: &'a [u32],
-    acceptance: &'a [u32],
-    seed: u32,
-    steps: [Step; 16],
-    n: usize,
+    plan: &'a Plan,
+    values: &'a Values,
+    rule: Rule,
     x: u32,
     row: &'b mut [u16],
 ) -> u32
-    requires { ⌜ (n ≤ 16) × Ready seed (now first) (now count) (now types) (now items) (now weights) (now acceptance) (actionsTo steps n) ⌝ }
-    requires { ⌜ emittedTo (actionsTo steps n) n ≤ length (now row) ⌝ }
-    ensures { λ r. ⌜ (now (row .exit) ≡ filledUp (length (now (row .entry))) (bareRunTo
-        (viewFrom seed (now (first .entry)) (now (count .entry)) (now (types .entry)) (now (items .entry)) (now (weights .entry)) (now (acceptance .entry)))
-        x (actionsTo steps n) n .list)) × (r ≡ bareRunTo
-        (viewFrom seed (now (first .entry)) (now (count .entry)) (now (types .entry)) (now (items .entry)) (now (weights .entry)) (now (acceptance .entry)))
-        x (actionsTo steps n) n .tries) ⌝ }
+    requires { ⌜ (rule .len ≤ 16) × Ready (now plan) (now values) (actionsIn rule) ⌝ }
+    requires { ⌜ emittedTo (actionsIn rule) (rule .len) ≤ length (now row) ⌝ }
+    ensures { λ r. ⌜ (now (row .exit) ≡ filledUp (length (now (row .entry))) (bareRunTo (viewIn (now (plan .entry)) (now (values .entry))) x (actionsIn rule) (rule .len) .list)) × (r ≡ bareRunTo (viewIn (now (plan .entry)) (now (values .entry))) x (actionsIn rule) (rule .len) .tries) ⌝ }
 {
-    let p = run(
-        first,
-        count,
-        types,
-        items,
-        weights,
-        acceptance,
-        seed,
-        steps,
-        n,
-        x,
-    );
+    let p = run(plan, values, rule, x);
     let list = p.list;
     let m = p.emitted;
     write_row(&list[..m], row);

@@ -2,18 +2,22 @@
 ghost use mathlib.Core.Path.{_≡_};
 ghost use Prim.Native.Nat.{ℕ, _+_, _*_, _<_, _≤_};
 ghost use lib.Dec.{eqb};
-ghost use lib.ListN.{length, take};
+ghost use lib.ListN.{take};
 ghost use Rattle.definitions.specs.View.{View};
 ghost use Rattle.definitions.specs.Walk.{hole};
 ghost use Rattle.definitions.specs.Select.{triesIn};
-ghost use Rattle.hierarchy.specs.Arrays.{viewFrom, Sound};
+ghost use Rattle.hierarchy.specs.Arrays.{viewIn, Sound};
 ghost use Rattle.placement.specs.Bare.{bareWith, bareRank, bareRanks, bareHoles, bareAt, bareSelect};
 ghost use Rattle.placement.specs.Entries.{Each};
 ghost use Rattle.placement.specs.Working.{Workable, Entry};
 ghost use Rattle.placement.specs.Chosen.{bareIn, leftOut, withEntry, Grown};
 use definitions::Mode;
 use definitions::Ranked;
+use hierarchy::Plan;
+use hierarchy::Values;
 use item::Item;
+use walk::Search;
+use walk::Wanted;
 
 // The entries put out so far (the first `len`), f, and the tries so far.
 pub struct Chosen {
@@ -97,13 +101,8 @@ fn holes(mode: Mode, n: u32, c: Chosen) -> Chosen
 
 // The rank r at the bucket of entry a.
 fn next_rank<'a>(
-    first: &'a [u32],
-    count: &'a [u32],
-    types: &'a [u32],
-    items: &'a [u32],
-    weights: &'a [u32],
-    acceptance: &'a [u32],
-    seed: u32,
+    plan: &'a Plan,
+    values: &'a Values,
     x: u32,
     mode: Mode,
     n: u32,
@@ -112,46 +111,28 @@ fn next_rank<'a>(
     r: u32,
     c: Chosen,
 ) -> Chosen
-    requires { ⌜ Sound (now first) (now count) (now types) (now items) (now weights) ⌝ }
-    requires { ⌜ (length (now acceptance) ≡ 1024) × (n ≤ 16) × (r ≤ 16) × (65536 ≤ a) × (a < 65792) ⌝ }
+    requires { ⌜ Sound (now plan) ⌝ }
+    requires { ⌜ (n ≤ 16) × (r ≤ 16) × (65536 ≤ a) × (a < 65792) ⌝ }
     requires { ⌜ (c .len < 16) × (c .f ≤ 1000) × (c .tries ≤ 1000000) ⌝ }
-    ensures { λ d. ⌜ (bareIn d ≡ bareRank
-        (viewFrom seed (now (first .entry)) (now (count .entry)) (now (types .entry)) (now (items .entry)) (now (weights .entry)) (now (acceptance .entry)))
-        x mode n t a r (bareIn c)) × Grown 1 c d × (d .f ≤ c .f + 50) ⌝ }
+    ensures { λ d. ⌜ (bareIn d ≡ bareRank (viewIn (now (plan .entry)) (now (values .entry))) x mode n t a r (bareIn c)) × Grown 1 c d × (d .f ≤ c .f + 50) ⌝ }
 {
     let held = c.entries;
     let m = c.len;
     let f = c.f;
-    let b = a - Item::BUCKET_BASE;
-    let k = walk::rank(
-        first,
-        count,
-        types,
-        items,
-        weights,
-        acceptance,
-        seed,
-        x,
-        mode,
-        n,
-        t,
-        &held[..m],
-        b,
-        r,
-        f,
-    );
+    let bucket = Item::numbered(a);
+    let search = Search {
+        wanted: Wanted { mode, n, t },
+        start: bucket.bucket_number(),
+        r: r,
+    };
+    let k = walk::rank(plan, values, x, search, &held[..m], f);
     put_out(mode, c, k)
 }
 
 // "for each bucket in it, f = 0 and ranks r = 1 to n follow": the bucket of entry a.
 fn ranks<'a>(
-    first: &'a [u32],
-    count: &'a [u32],
-    types: &'a [u32],
-    items: &'a [u32],
-    weights: &'a [u32],
-    acceptance: &'a [u32],
-    seed: u32,
+    plan: &'a Plan,
+    values: &'a Values,
     x: u32,
     mode: Mode,
     n: u32,
@@ -159,12 +140,10 @@ fn ranks<'a>(
     a: u32,
     c: Chosen,
 ) -> Chosen
-    requires { ⌜ Sound (now first) (now count) (now types) (now items) (now weights) ⌝ }
-    requires { ⌜ (length (now acceptance) ≡ 1024) × (n ≤ 16) × (65536 ≤ a) × (a < 65792) ⌝ }
+    requires { ⌜ Sound (now plan) ⌝ }
+    requires { ⌜ (n ≤ 16) × (65536 ≤ a) × (a < 65792) ⌝ }
     requires { ⌜ (c .len + n ≤ 16) × (c .tries ≤ 900000) ⌝ }
-    ensures { λ d. ⌜ (bareIn d ≡ bareRanks
-        (viewFrom seed (now (first .entry)) (now (count .entry)) (now (types .entry)) (now (items .entry)) (now (weights .entry)) (now (acceptance .entry)))
-        x mode n t a (bareIn c) n) × Grown n c d ⌝ }
+    ensures { λ d. ⌜ (bareIn d ≡ bareRanks (viewIn (now (plan .entry)) (now (values .entry))) x mode n t a (bareIn c) n) × Grown n c d ⌝ }
 {
     let entries = c.entries;
     let mut d = Chosen {
@@ -176,35 +155,15 @@ fn ranks<'a>(
     let mut r: u32 = 0;
     while r < n {
         r += 1;
-        d = next_rank(
-            first,
-            count,
-            types,
-            items,
-            weights,
-            acceptance,
-            seed,
-            x,
-            mode,
-            n,
-            t,
-            a,
-            r,
-            d,
-        );
+        d = next_rank(plan, values, x, mode, n, t, a, r, d);
     }
     d
 }
 
 // What entry a of the working list gives.
 fn work_on<'a>(
-    first: &'a [u32],
-    count: &'a [u32],
-    types: &'a [u32],
-    items: &'a [u32],
-    weights: &'a [u32],
-    acceptance: &'a [u32],
-    seed: u32,
+    plan: &'a Plan,
+    values: &'a Values,
     x: u32,
     mode: Mode,
     n: u32,
@@ -212,42 +171,21 @@ fn work_on<'a>(
     a: u32,
     c: Chosen,
 ) -> Chosen
-    requires { ⌜ Sound (now first) (now count) (now types) (now items) (now weights) ⌝ }
-    requires { ⌜ (length (now acceptance) ≡ 1024) × (n ≤ 16) × Workable a ⌝ }
+    requires { ⌜ Sound (now plan) ⌝ }
+    requires { ⌜ (n ≤ 16) × Workable a ⌝ }
     requires { ⌜ (c .len + n ≤ 16) × (c .tries ≤ 900000) ⌝ }
-    ensures { λ d. ⌜ (bareIn d ≡ bareAt
-        (viewFrom seed (now (first .entry)) (now (count .entry)) (now (types .entry)) (now (items .entry)) (now (weights .entry)) (now (acceptance .entry)))
-        x mode n t a (bareIn c) (eqb a hole)) × Grown n c d ⌝ }
+    ensures { λ d. ⌜ (bareIn d ≡ bareAt (viewIn (now (plan .entry)) (now (values .entry))) x mode n t a (bareIn c) (eqb a hole)) × Grown n c d ⌝ }
 {
     if a == walk::HOLE {
         return holes(mode, n, c);
     }
-    ranks(
-        first,
-        count,
-        types,
-        items,
-        weights,
-        acceptance,
-        seed,
-        x,
-        mode,
-        n,
-        t,
-        a,
-        c,
-    )
+    ranks(plan, values, x, mode, n, t, a, c)
 }
 
 // A select over the first len entries of the working list.
 pub fn select<'a>(
-    first: &'a [u32],
-    count: &'a [u32],
-    types: &'a [u32],
-    items: &'a [u32],
-    weights: &'a [u32],
-    acceptance: &'a [u32],
-    seed: u32,
+    plan: &'a Plan,
+    values: &'a Values,
     x: u32,
     working: [u32; 16],
     len: usize,
@@ -255,12 +193,10 @@ pub fn select<'a>(
     n: u32,
     t: u32,
 ) -> Chosen
-    requires { ⌜ Sound (now first) (now count) (now types) (now items) (now weights) ⌝ }
-    requires { ⌜ (length (now acceptance) ≡ 1024) × (1 ≤ n) × (n ≤ 16) × (len * n ≤ 16) × Each Workable (take len working) ⌝ }
-    ensures { λ d. ⌜ (bareIn d ≡ bareSelect
-        (viewFrom seed (now (first .entry)) (now (count .entry)) (now (types .entry)) (now (items .entry)) (now (weights .entry)) (now (acceptance .entry)))
-        x mode n t (take len working)) × (d .len ≤ len * n) × (d .tries ≤ 16 * 51) ⌝ }
-    ensures entries { λ d. ⌜ Each (Entry (now (types .entry)) t) (take (d .len) (d .entries)) ⌝ }
+    requires { ⌜ Sound (now plan) ⌝ }
+    requires { ⌜ (1 ≤ n) × (n ≤ 16) × (len * n ≤ 16) × Each Workable (take len working) ⌝ }
+    ensures { λ d. ⌜ (bareIn d ≡ bareSelect (viewIn (now (plan .entry)) (now (values .entry))) x mode n t (take len working)) × (d .len ≤ len * n) × (d .tries ≤ 16 * 51) ⌝ }
+    ensures entries { λ d. ⌜ Each (Entry (now (plan .entry)) t) (take (d .len) (d .entries)) ⌝ }
 {
     let mut c = Chosen {
         entries: [walk::HOLE; 16],
@@ -270,21 +206,7 @@ pub fn select<'a>(
     };
     let mut i: usize = 0;
     while i < len {
-        c = work_on(
-            first,
-            count,
-            types,
-            items,
-            weights,
-            acceptance,
-            seed,
-            x,
-            mode,
-            n,
-            t,
-            working[i],
-            c,
-        );
+        c = work_on(plan, values, x, mode, n, t, working[i], c);
         i += 1;
     }
     c

@@ -12,57 +12,57 @@ use borrow.Author.Tests.{eqb-true}
 use lib.Dec.{eqb}
 use lib.ListN.{length, getD, take, drop, length-append, length-map, length-drop, drop-of-length-le}
 use lib.Seq.{take-at, drop-at, drop-drop, take-all, take-append-le, drop-append-le, length-take-le, ext-getD}
-use Rattle.definitions.specs.declared.Action.{Action}
 use Rattle.definitions.specs.declared.Move.{Move}
 use Rattle.definitions.specs.Lists.{over}
 use Rattle.definitions.specs.Frames.{bytesOf}
 use Rattle.definitions.specs.Map.{Map}
-use Rattle.definitions.specs.View.{View}
 use Rattle.definitions.specs.Select.{Place, entriesOf, nowhere}
-use Rattle.definitions.specs.Rule.{runTo, padded}
+use Rattle.definitions.specs.Rule.{padded}
 use Rattle.definitions.specs.Table.{tableOf}
 use Rattle.definitions.specs.Edit.{parting, causeOf, rowMovesTo, movesOf, movesBytes}
+use Rattle.hierarchy.specs.declared.Rule.{Rule}
 use Rattle.survey.specs.Rows.{differTo, differ-moves}
-use Rattle.survey.specs.Places.{placesAt}
+use Rattle.survey.specs.Places.{listAt, placesAt, movesAt}
 use Rattle.survey.specs.Surveyed.{rowsTo, movesBy, rows-split}
 use Rattle.survey.specs.Changes.{changesTo, Written, changes-moves, written-none, written-more, written-length, bytes-append, length-bytes}
 use Rattle.survey.specs.Between.{Between, new-table, moves-are}
 
 -- every list is w long
-abbrev pub Long : View → List Action → ℕ → ℕ → Type 0
-Long v actions n w = (x : ℕ) → length (runTo v x actions n .list) ≡ w
+abbrev pub Long : List ℕ → List ℕ → Rule → ℕ → Type 0
+Long plan values rule w = (x : ℕ) → length (listAt plan values rule x) ≡ w
 
-module _ (v : View) (actions : List Action) (n w : ℕ) (long : Long v actions n w) (x : ℕ) where
-  places-list : placesAt v actions n w x ≡ runTo v x actions n .list
+module _ (plan values : List ℕ) (rule : Rule) (w : ℕ) (long : Long plan values rule w) (x : ℕ) where
+  places-list : placesAt plan values rule w x ≡ listAt plan values rule x
   unfolding placesAt padded
   places-list =
-      let z : w - length (runTo v x actions n .list) ≡ 0 = omega (arith, long x) in
-      rw z (append-nil (runTo v x actions n .list))
+      let z : w - length (listAt plan values rule x) ≡ 0 = omega (arith, long x) in
+      rw z (append-nil (listAt plan values rule x))
 
-  pub length-places : length (placesAt v actions n w x) ≡ w
+  pub length-places : length (placesAt plan values rule w x) ≡ w
   length-places = ap length places-list ∙ long x
 
-  pub length-row : length (entriesOf (placesAt v actions n w x)) ≡ w
+  pub length-row : length (entriesOf (placesAt plan values rule w x)) ≡ w
   unfolding entriesOf
-  length-row = length-map (placesAt v actions n w x) (λ (p : Place). p .entry) ∙ length-places
+  length-row = length-map (placesAt plan values rule w x) (λ (p : Place). p .entry) ∙ length-places
 
--- the causes of the places of group g between the two runs, as the first of cs
-abbrev pub CausesOf : View → View → List Action → ℕ → ℕ → List ℕ → Type 0
-CausesOf v v′ actions n g cs =
-    (j : ℕ) → j < length (runTo v g actions n .list)
-    → getD cs j 0 ≡ causeOf (parting (getD (runTo v g actions n .list) j nowhere .walk) (getD (runTo v′ g actions n .list) j nowhere .walk))
+module _ (plan old new : List ℕ) (rule : Rule) (w g : ℕ) (l : Long plan old rule w) (l′ : Long plan new rule w) where
+  abbrev ps : List Place
+  ps = placesAt plan old rule w g
 
--- with them, what is written are the moves of the row
-pub told-moves : (v v′ : View) (actions : List Action) (n w g : ℕ) (cs old new : List ℕ) → Long v actions n w → Long v′ actions n w → CausesOf v v′ actions n g cs
-    → old ≡ entriesOf (placesAt v actions n w g) → new ≡ entriesOf (placesAt v′ actions n w g)
-    → changesTo g old new cs (length old) ≡ rowMovesTo g (placesAt v actions n w g) (placesAt v′ actions n w g) w
-told-moves v v′ actions n w g cs old new l l′ c e e′ =
-    let ps = placesAt v actions n w g in
-    let qs = placesAt v′ actions n w g in
-    let k : length old ≡ w = ap length e ∙ length-row v actions n w l g in
-    ap₂ (λ (a b : List ℕ). changesTo g a b cs (length old)) e e′ ∙ ap (changesTo g (entriesOf ps) (entriesOf qs) cs) k
-    ∙ changes-moves g ps qs cs w (omega (arith, length-places v actions n w l g)) (omega (arith, length-places v′ actions n w l′ g))
-    (λ j i. c j (omega (arith, l g)) ∙ ap₂ (λ (a b : List Place). causeOf (parting (getD a j nowhere .walk) (getD b j nowhere .walk))) (sym (places-list v actions n w l g)) (sym (places-list v′ actions n w l′ g)))
+  abbrev qs : List Place
+  qs = placesAt plan new rule w g
+
+  -- with the causes of the group's places, the first of cs, what is written are the moves of its row
+  pub told-moves : (cs row row′ : List ℕ)
+      → ((j : ℕ) → j < length (listAt plan old rule g)
+      → getD cs j 0 ≡ causeOf (parting (getD (listAt plan old rule g) j nowhere .walk) (getD (listAt plan new rule g) j nowhere .walk)))
+      → row ≡ entriesOf ps → row′ ≡ entriesOf qs → changesTo g row row′ cs (length row) ≡ movesAt plan old new rule w g
+  told-moves cs row row′ c e e′ =
+      let k : length row ≡ w = ap length e ∙ length-row plan old rule w l g in
+      ap₂ (λ (a b : List ℕ). changesTo g a b cs (length row)) e e′ ∙ ap (changesTo g (entriesOf ps) (entriesOf qs) cs) k
+      ∙ changes-moves g ps qs cs w (omega (arith, length-places plan old rule w l g)) (omega (arith, length-places plan new rule w l′ g))
+      (λ j i. c j (omega (arith, l g))
+      ∙ ap₂ (λ (a b : List Place). causeOf (parting (getD a j nowhere .walk) (getD b j nowhere .walk))) (sym (places-list plan old rule w l g)) (sym (places-list plan new rule w l′ g)))
 
 -- ---- a row with no moves
 
@@ -78,17 +78,18 @@ same-places old new (suc k) e i h =
     go true q z = eqb-true (getD old k 0) (getD new k 0) q
     go false q z = absurd (omega (arith, z))
 
-pub same-rows : (g w : ℕ) (ps qs : List Place) → length ps ≡ w → length qs ≡ w → rowMovesTo g ps qs w ≡ [] → entriesOf ps ≡ entriesOf qs
+same-rows : (g w : ℕ) (ps qs : List Place) → length (entriesOf ps) ≡ w → length (entriesOf qs) ≡ w → rowMovesTo g ps qs w ≡ [] → entriesOf ps ≡ entriesOf qs
 unfolding entriesOf
 same-rows g w ps qs a b e =
     let m = length-map ps (λ (p : Place). p .entry) in
-    ext-getD 0 (entriesOf ps) (entriesOf qs) (m ∙ a ∙ sym b ∙ sym (length-map qs (λ (p : Place). p .entry)))
-    (λ i h. same-places (entriesOf ps) (entriesOf qs) w (differ-moves g ps qs w (omega arith) (omega arith) ∙ ap length e) i (omega (arith, m, h)))
+    let n = length-map qs (λ (p : Place). p .entry) in
+    ext-getD 0 (entriesOf ps) (entriesOf qs) (a ∙ sym b)
+    (λ i h. same-places (entriesOf ps) (entriesOf qs) w (differ-moves g ps qs w (omega (arith, a, m)) (omega (arith, b, n)) ∙ ap length e) i (omega (arith, a, h)))
 
 -- and nothing is written
-pub unmoved : (u : List ℕ) (at : ℕ) (ms : List Move) → ms ≡ [] → at + 23 * length ms ≤ length u → Written u u at at (movesBytes ms)
+unmoved : (u : List ℕ) (at : ℕ) (ms : List Move) → ms ≡ [] → at ≤ length u → Written u u at at (movesBytes ms)
 unfolding movesBytes bytesOf
-unmoved u at ms e h = rw e (written-none u at (omega arith))
+unmoved u at ms e h = rw e (written-none u at h)
 
 -- ---- row by row
 
@@ -111,7 +112,7 @@ take-drop (suc n) [] = refl
 take-drop (suc n) (x ∷ l) = ap (λ (y : List ℕ). x ∷ y) (take-drop n l)
 
 -- where it stands there already
-pub rewritten-same : (t row : List ℕ) (g w : ℕ) → take w (drop (g * w) t) ≡ row → Rewritten t t g w row
+rewritten-same : (t row : List ℕ) (g w : ℕ) → take w (drop (g * w) t) ≡ row → Rewritten t t g w row
 rewritten-same t row g w e =
     record {
       whole = take-drop (g * w) t
@@ -191,6 +192,12 @@ module _ (w : ℕ) (f f′ : ℕ → List Place) where
           moves = rw (bytes-append (movesBy w f f′ g) (rowMovesTo g (f g) (f′ g) w)) (written-more (a .moves) q);
         })
 
+    -- which is as it was where there are no moves
+    pub applied-still : take (groups * w) t ≡ rowsTo f groups → groups * w ≤ length t → rowMovesTo g (f g) (f′ g) w ≡ [] → Applied (g + 1) t table u space at
+    applied-still e r none =
+        applied-more (rewritten-same table (entriesOf (f′ g)) g w (old-row e r ∙ same-rows g w (f g) (f′ g) (wide g) (wide′ g) none))
+        (unmoved space at _ none (omega (arith, a .moves .within, written-length (a .moves))))
+
   -- all of them
   pub applied-table : {t table u space : List ℕ} {at : ℕ} (g groups : ℕ) → Wide f′ → g ≡ groups → Applied g t table u space at → table ≡ over (rowsTo f′ groups) t
   applied-table {t} g groups wide e a =
@@ -202,10 +209,12 @@ module _ (w : ℕ) (f f′ : ℕ → List Place) where
       ∙ ap (λ (k : ℕ). over (movesBytes (movesBy w f f′ k)) u) e
 
 -- and so of the two maps
-pub applied-maps : {v v′ : View} {actions : List Action} {n w : ℕ} {t table u space : List ℕ} {at : ℕ} (g groups : ℕ) → Long v′ actions n w → g ≡ groups
-    → Applied w (placesAt v actions n w) (placesAt v′ actions n w) g t table u space at → (m m′ : Map) → Between v v′ actions n groups w m m′
+pub applied-maps : {plan old new : List ℕ} {rule : Rule} {w : ℕ} {t table u space : List ℕ} {at : ℕ} (g groups : ℕ) → Long plan new rule w → g ≡ groups
+    → Applied w (placesAt plan old rule w) (placesAt plan new rule w) g t table u space at → (m m′ : Map) → Between plan old new rule groups w m m′
     → (table ≡ over (tableOf m′) t) × (space ≡ over (movesBytes (movesOf m m′)) u)
-applied-maps {v} {v′} {actions} {n} {w} {t} {u = u} g groups long e a m m′ B = (
-  applied-table w (placesAt v actions n w) (placesAt v′ actions n w) g groups (length-row v′ actions n w long) e a ∙ ap (λ (l : List ℕ). over l t) (new-table m m′ B),
-  applied-space w (placesAt v actions n w) (placesAt v′ actions n w) g groups e a ∙ ap (λ (l : List Move). over (movesBytes l) u) (moves-are m m′ B),
-)
+applied-maps {plan} {old} {new} {rule} {w} {t} {u = u} g groups long e a m m′ B =
+    let f = placesAt plan old rule w in
+    let f′ = placesAt plan new rule w in (
+      applied-table w f f′ g groups (length-row plan new rule w long) e a ∙ ap (λ (l : List ℕ). over l t) (new-table m m′ B),
+      applied-space w f f′ g groups e a ∙ ap (λ (l : List Move). over (movesBytes l) u) (moves-are m m′ B),
+    )

@@ -1,5 +1,5 @@
--- The two maps of an edit beside the views and actions that the code runs by: what the code finds is what the definitions say of them.
--- Assumes nothing.
+-- The two maps of an edit beside the plan, the values and the rule that the code runs by: what the code finds is what the definitions say
+-- of them. Assumes nothing.
 use mathlib.Core.Path.{_≡_, refl, sym, ap, ap₂, _∙_}
 use mathlib.Core.Bool.{true}
 use mathlib.Core.List.{List, [], _∷_, _++_}
@@ -14,25 +14,27 @@ use Rattle.definitions.specs.Lists.{every, same, joined}
 use Rattle.definitions.specs.Map.{Map, actionsOf}
 use Rattle.definitions.specs.View.{View, viewOf}
 use Rattle.definitions.specs.Select.{Place, entriesOf}
-use Rattle.definitions.specs.Rule.{runTo, widthOf, placedBy, placedOf}
+use Rattle.definitions.specs.Rule.{runTo, widthOf, padded, placedBy, placedOf}
 use Rattle.definitions.specs.Table.{runsTo, runsOf, rowIn, tableIn, tableOf}
 use Rattle.definitions.specs.Edit.{rowMoves, nothingPlaced, movesTo, movesIn, movesOf}
 use Rattle.definitions.specs.Calls.{notFirstN, independent, fresh}
 use Rattle.laws.specs.Loadable.{Loadable, ranged-is}
-use Rattle.tracing.specs.Listed.{table-more, listAt, placed-list, placed-width}
-use Rattle.blocks.specs.Products.{emittedTo}
-use Rattle.placement.specs.Loaded.{width-is}
+use Rattle.hierarchy.specs.declared.Rule.{Rule}
+use Rattle.hierarchy.specs.Arrays.{viewIn, actionsIn}
+use Rattle.tracing.specs.Listed as listed
+use Rattle.tracing.specs.Listed.{table-more, placed-list, placed-width}
 use Rattle.survey.specs.declared.surveys.Findings.{Findings}
-use Rattle.survey.specs.Places.{placesAt}
+use Rattle.survey.specs.Places.{listAt, placesAt}
 use Rattle.survey.specs.Surveyed.{rowsTo, movesBy, Surveyed}
 
--- m and m′ are maps of these views, of one rule, k groups and width w, to which an edit's first questions were answered yes
-pub record Between (v v′ : View) (actions : List Action) (n k w : ℕ) (m m′ : Map) : Type 0 where
-  pub old : viewOf m ≡ v
-  pub new : viewOf m′ ≡ v′
-  pub rule : actionsOf m ≡ actions
-  pub rule′ : actionsOf m′ ≡ actions
-  pub steps : length actions ≡ n
+-- m and m′ are the maps of the plan with these values, of this rule, k groups and width w, to which an edit's first questions were
+-- answered yes
+pub record Between (plan old new : List ℕ) (rule : Rule) (k w : ℕ) (m m′ : Map) : Type 0 where
+  pub view : viewOf m ≡ viewIn plan old
+  pub view′ : viewOf m′ ≡ viewIn plan new
+  pub actions : actionsOf m ≡ actionsIn rule
+  pub actions′ : actionsOf m′ ≡ actionsIn rule
+  pub steps : length (actionsIn rule) ≡ rule .len
   pub groups : m .groups ≡ k
   pub groups′ : m′ .groups ≡ k
   pub width : widthOf m ≡ w
@@ -48,10 +50,19 @@ pub record Between (v v′ : View) (actions : List Action) (n k w : ℕ) (m m′
 abbrev Gives : Map → (ℕ → List Place) → Type 0
 Gives m f = (x : ℕ) → f x ≡ placedOf m x .places
 
-places-placed : (m : Map) (v : View) (actions : List Action) (n w : ℕ) → viewOf m ≡ v → actionsOf m ≡ actions → length actions ≡ n → widthOf m ≡ w
-    → Gives m (placesAt v actions n w)
-unfolding placesAt placedOf placedBy
-places-placed m v actions n w a b c d x = rw (← a, ← d, ← c, ← b) refl
+-- by equal views and actions, as many as there are, the lists are the same
+runs-alike : (v v′ : View) (l l′ : List Action) (n x : ℕ) → v ≡ v′ → l ≡ l′ → length l′ ≡ n → runTo v′ x l′ n .list ≡ runTo v x l (length l) .list
+runs-alike v v′ l l′ n x a b c = rw (← a, ← c, ← b) refl
+
+module _ (m : Map) (plan values : List ℕ) (rule : Rule) (w : ℕ) (a : viewOf m ≡ viewIn plan values) (b : actionsOf m ≡ actionsIn rule)
+    (c : length (actionsIn rule) ≡ rule .len) (d : widthOf m ≡ w) where
+  places-placed : Gives m (placesAt plan values rule w)
+  unfolding placesAt placedOf placedBy
+  places-placed x = ap₂ padded (sym d) (runs-alike _ _ _ _ _ x a b c)
+
+  list-long : Loadable m → independent m ≡ true → (x : ℕ) → length (listAt plan values rule x) ≡ w
+  unfolding listed.listAt
+  list-long L i x = ap length (runs-alike _ _ _ _ _ x a b c ∙ sym (placed-list m x L i)) ∙ placed-width m x L i ∙ d
 
 module _ (m : Map) (f : ℕ → List Place) (is : Gives m f) where
   rows-table : (n : ℕ) → rowsTo f n ≡ tableIn (runsTo m n)
@@ -81,66 +92,56 @@ moves-to m m′ f f′ a b w k zero h = refl
 moves-to m m′ f f′ a b w k (suc n) h =
     rw (moves-to m m′ f f′ a b w k n (omega arith), runs-at m k n (omega arith), runs-at m′ k n (omega arith), a n, b n) refl
 
-list-long : (m : Map) (v : View) (actions : List Action) (n w : ℕ) → viewOf m ≡ v → actionsOf m ≡ actions → length actions ≡ n → widthOf m ≡ w
-    → Loadable m → independent m ≡ true → (x : ℕ) → length (runTo v x actions n .list) ≡ w
-unfolding listAt
-list-long m v actions n w a b c d L i x = rw (← a, ← c, ← b) (sym (ap length (placed-list m x L i)) ∙ placed-width m x L i ∙ d)
-
 -- ---- both maps
 
-module _ {v v′ : View} {actions : List Action} {n groups w : ℕ} (m m′ : Map) (B : Between v v′ actions n groups w m m′) where
-  gives : Gives m (placesAt v actions n w)
-  gives = places-placed m v actions n w (B .old) (B .rule) (B .steps) (B .width)
+module _ {plan old new : List ℕ} {rule : Rule} {groups w : ℕ} (m m′ : Map) (B : Between plan old new rule groups w m m′) where
+  gives : Gives m (placesAt plan old rule w)
+  gives = places-placed m plan old rule w (B .view) (B .actions) (B .steps) (B .width)
 
-  gives′ : Gives m′ (placesAt v′ actions n w)
-  gives′ = places-placed m′ v′ actions n w (B .new) (B .rule′) (B .steps) (B .width′)
+  gives′ : Gives m′ (placesAt plan new rule w)
+  gives′ = places-placed m′ plan new rule w (B .view′) (B .actions′) (B .steps) (B .width′)
 
   -- the rows are the tables
-  pub old-table : rowsTo (placesAt v actions n w) groups ≡ tableOf m
+  pub old-table : rowsTo (placesAt plan old rule w) groups ≡ tableOf m
   unfolding tableOf runsOf
-  old-table = rows-table m (placesAt v actions n w) gives groups ∙ ap (λ (k : ℕ). tableIn (runsTo m k)) (sym (B .groups))
+  old-table = rows-table m (placesAt plan old rule w) gives groups ∙ ap (λ (k : ℕ). tableIn (runsTo m k)) (sym (B .groups))
 
-  pub new-table : rowsTo (placesAt v′ actions n w) groups ≡ tableOf m′
+  pub new-table : rowsTo (placesAt plan new rule w) groups ≡ tableOf m′
   unfolding tableOf runsOf
-  new-table = rows-table m′ (placesAt v′ actions n w) gives′ groups ∙ ap (λ (k : ℕ). tableIn (runsTo m′ k)) (sym (B .groups′))
+  new-table = rows-table m′ (placesAt plan new rule w) gives′ groups ∙ ap (λ (k : ℕ). tableIn (runsTo m′ k)) (sym (B .groups′))
 
   -- and the moves are the moves
-  pub moves-are : movesBy w (placesAt v actions n w) (placesAt v′ actions n w) groups ≡ movesOf m m′
+  pub moves-are : movesBy w (placesAt plan old rule w) (placesAt plan new rule w) groups ≡ movesOf m m′
   unfolding movesOf movesIn runsOf
   moves-are =
-      moves-to m m′ (placesAt v actions n w) (placesAt v′ actions n w) gives gives′ w groups groups (omega arith)
+      moves-to m m′ (placesAt plan old rule w) (placesAt plan new rule w) gives gives′ w groups groups (omega arith)
       ∙ ap (movesTo w (runsTo m groups) (runsTo m′ groups)) (sym (runs-count m groups))
       ∙ ap₂ (λ (i j : ℕ). movesTo w (runsTo m i) (runsTo m′ j) (length (runsTo m i))) (sym (B .groups)) (sym (B .groups′))
       ∙ ap (λ (k : ℕ). movesTo k (runsTo m (m .groups)) (runsTo m′ (m′ .groups)) (length (runsTo m (m .groups)))) (sym (B .width))
 
   -- every list is w long
-  pub old-long : (x : ℕ) → length (runTo v x actions n .list) ≡ w
-  old-long = list-long m v actions n w (B .old) (B .rule) (B .steps) (B .width) (B .loadable) (B .only)
+  pub old-long : (x : ℕ) → length (listAt plan old rule x) ≡ w
+  old-long = list-long m plan old rule w (B .view) (B .actions) (B .steps) (B .width) (B .loadable) (B .only)
 
-  pub new-long : (x : ℕ) → length (runTo v′ x actions n .list) ≡ w
-  new-long = list-long m′ v′ actions n w (B .new) (B .rule′) (B .steps) (B .width′) (B .loadable′) (B .only′)
+  pub new-long : (x : ℕ) → length (listAt plan new rule x) ≡ w
+  new-long = list-long m′ plan new rule w (B .view′) (B .actions′) (B .steps) (B .width′) (B .loadable′) (B .only′)
 
-  -- what the code asks of the rule, the width and the groups
-  pub emitted : emittedTo actions n ≤ w
-  emitted = rw (← B .steps, ← B .rule, ← B .width) (omega (arith, width-is m (B .loadable) .0))
-
-  pub narrow : w ≤ 32
-  narrow = omega (arith, width-is m (B .loadable) .1, B .width)
-
+  -- what the code asks of the rule and the groups
   pub few : groups ≤ 65536
   few = omega (arith, ranged-is m (B .loadable .ranged) .most, B .groups)
 
-  pub selects : every notFirstN actions ≡ true
+  pub selects : every notFirstN (actionsIn rule) ≡ true
   unfolding independent
-  selects = rw (← B .rule) (B .only)
+  selects = rw (← B .actions) (B .only)
 
 -- what a survey answers of the two maps
 pub record Answers (m m′ : Map) (table : List ℕ) (s : Findings) : Type 0 where
   pub fresh : s .fresh ≡ fresh m (runsOf m) table
   pub moves : s .fresh ≡ true → s .moves ≡ length (movesOf m m′)
 
-pub answers : {v v′ : View} {actions : List Action} {n groups w : ℕ} {table : List ℕ} {s : Findings}
-    → Surveyed w (placesAt v actions n w) (placesAt v′ actions n w) groups table s → (m m′ : Map) → Between v v′ actions n groups w m m′ → Answers m m′ table s
+pub answers : {plan old new : List ℕ} {rule : Rule} {groups w : ℕ} {table : List ℕ} {s : Findings}
+    → Surveyed w (placesAt plan old rule w) (placesAt plan new rule w) groups table s → (m m′ : Map) → Between plan old new rule groups w m m′
+    → Answers m m′ table s
 unfolding fresh tableOf
 answers {groups = groups} {w = w} {table = table} f m m′ B =
     record {

@@ -6,21 +6,36 @@ use Prim.Native.Nat.{ℕ, zero, suc, _-_, _≤_}
 use native.Mathlib.Omega.{arith}
 use lib.ListN.{length, take, drop, replicate, length-map}
 use lib.Seq.{take-at, length-take-le}
-use Rattle.definitions.specs.declared.Action.{Action}
+use Rattle.definitions.specs.declared.Move.{Move}
 use Rattle.definitions.specs.Lists.{same}
-use Rattle.definitions.specs.View.{View}
 use Rattle.definitions.specs.Walk.{hole}
 use Rattle.definitions.specs.Select.{Place, entriesOf, nowhere}
 use Rattle.definitions.specs.Rule.{runTo, padded}
 use Rattle.definitions.specs.Edit.{rowMovesTo}
+use Rattle.hierarchy.specs.declared.Rule.{Rule}
+use Rattle.hierarchy.specs.Arrays.{viewIn, actionsIn}
+use Rattle.blocks.specs.Products.{emittedTo}
+use Rattle.placement.specs.Ruled.{Ready}
 use Rattle.placement.specs.Bare.{BareRun, bareRunTo, filledUp, run-bare}
 use Rattle.survey.specs.declared.looks.Glance.{Glance}
 use Rattle.survey.specs.declared.looks.Glance.the-variants.{Stale, Moves}
 use Rattle.survey.specs.Rows.{differTo, differ-moves, same-is}
 
--- the w places of group x, by the first n actions
-unfoldable pub placesAt : View → List Action → ℕ → ℕ → ℕ → List Place
-placesAt v actions n w x = padded w (runTo v x actions n .list)
+-- the list of group x, by the rule over a plan and values
+abbrev pub listAt : List ℕ → List ℕ → Rule → ℕ → List Place
+listAt plan values rule x = runTo (viewIn plan values) x (actionsIn rule) (rule .len) .list
+
+-- its w places
+unfoldable pub placesAt : List ℕ → List ℕ → Rule → ℕ → ℕ → List Place
+placesAt plan values rule w x = padded w (listAt plan values rule x)
+
+-- the moves of its row between two runs, old and new
+abbrev pub movesAt : List ℕ → List ℕ → List ℕ → Rule → ℕ → ℕ → List Move
+movesAt plan old new rule w x = rowMovesTo x (placesAt plan old rule w x) (placesAt plan new rule w x) w
+
+-- what a run needs to write rows w wide
+abbrev pub Runs : List ℕ → List ℕ → Rule → ℕ → Type 0
+Runs plan values rule w = (rule .len ≤ 16) × Ready plan values (actionsIn rule) × (emittedTo (actionsIn rule) (rule .len) ≤ w) × (w ≤ 32)
 
 length-entries : (ps : List Place) → length (entriesOf ps) ≡ length ps
 unfolding entriesOf
@@ -32,19 +47,22 @@ entries-padded [] zero = refl
 entries-padded [] (suc k) = ap (λ (l : List ℕ). hole ∷ l) (entries-padded [] k)
 entries-padded (p ∷ ps) k = ap (λ (l : List ℕ). p .entry ∷ l) (entries-padded ps k)
 
-row-is : (v : View) (actions : List Action) (n w x : ℕ) → filledUp w (bareRunTo v x actions n .list) ≡ entriesOf (placesAt v actions n w x)
-unfolding placesAt padded filledUp
-row-is v actions n w x =
-    let s = runTo v x actions n .list in
-    let q : bareRunTo v x actions n .list ≡ entriesOf s = sym (ap (λ (r : BareRun). r .list) (run-bare v x actions n)) in
-    rw (q, length-entries s) (sym (entries-padded s (w - length s)))
+module _ (plan values : List ℕ) (rule : Rule) (w x : ℕ) where
+  abbrev bare : List ℕ
+  bare = bareRunTo (viewIn plan values) x (actionsIn rule) (rule .len) .list
 
--- w places written at the front of an array, now a, are their entries
-pub row-taken : (v : View) (actions : List Action) (n w x : ℕ) (a zs : List ℕ) → w ≤ length zs → length a ≡ length (take w zs)
-    → a ≡ filledUp (length (take w zs)) (bareRunTo v x actions n .list) → take w (a ++ drop w zs) ≡ entriesOf (placesAt v actions n w x)
-row-taken v actions n w x a zs h l e =
-    let k = length-take-le w zs h in
-    take-at a (drop w zs) w (l ∙ k) ∙ e ∙ ap (λ (i : ℕ). filledUp i (bareRunTo v x actions n .list)) k ∙ row-is v actions n w x
+  row-is : filledUp w bare ≡ entriesOf (placesAt plan values rule w x)
+  unfolding placesAt padded filledUp
+  row-is =
+      let s = listAt plan values rule x in
+      let q : bare ≡ entriesOf s = sym (ap (λ (r : BareRun). r .list) (run-bare (viewIn plan values) x (actionsIn rule) (rule .len))) in
+      rw (q, length-entries s) (sym (entries-padded s (w - length s)))
+
+  -- w places written at the front of an array, now a, are their entries
+  pub row-taken : (a zs : List ℕ) → w ≤ length zs → length a ≡ length (take w zs) → a ≡ filledUp (length (take w zs)) bare
+      → take w (a ++ drop w zs) ≡ entriesOf (placesAt plan values rule w x)
+  row-taken a zs h l e =
+      let k = length-take-le w zs h in take-at a (drop w zs) w (l ∙ k) ∙ e ∙ ap (λ (i : ℕ). filledUp i bare) k ∙ row-is
 
 -- what was found of a group whose old and new places these are, and of its row of the table
 abbrev pub Looked : List Place → List Place → ℕ → ℕ → List ℕ → Glance → Type 0

@@ -8,21 +8,23 @@ use Prim.Native.Nat.{ℕ, zero, suc, _+_, _-_, _*_, _<_, _≤_}
 use native.Mathlib.Nat.{eq-or-lt-of-le, mul-le-mul-right}
 use native.Mathlib.Decide.{decLt}
 use native.Mathlib.Omega.{arith}
-use lib.ListN.{length, getD, take, drop, length-append, length-drop, length-map, List·getD-append, List·getD-eq-default}
+use lib.ListN.{length, getD, take, drop, length-append, length-drop, length-map, List·getD-append}
 use lib.Seq.{drop-cons, drop-length, getD-append-add, drop-at, take-all, drop-append-le, take-append-le}
 use Rattle.definitions.specs.declared.Mode.the-variants.{FirstN, Independent}
 use Rattle.definitions.specs.declared.Action.{Action}
 use Rattle.definitions.specs.declared.Action.the-variants.{Take, Select, Emit, Idle}
-use Rattle.definitions.specs.declared.Standing.the-variants.{Outside, Broken}
+use Rattle.definitions.specs.declared.Standing.{Standing}
+use Rattle.definitions.specs.declared.Standing.the-variants.{Outside}
 use Rattle.definitions.specs.Lists.{sum, joined}
 use Rattle.definitions.specs.Map.{Map, actionsOf}
 use Rattle.definitions.specs.Select.{Place, entriesOf, nowhere}
 use Rattle.definitions.specs.Rule.{Run, taken, selected, act, runTo, widthsFrom, widths, widthOf, padded, Placed, placedBy, placedOf}
 use Rattle.definitions.specs.Table.{runsTo, runsOf, rowIn, tableIn, tableOf}
-use Rattle.definitions.specs.Load.{stand, standing, isOutside}
+use Rattle.definitions.specs.Load.{standing}
 use Rattle.definitions.specs.Calls.{notFirstN, independent}
 use Rattle.laws.specs.Lists.{getD-mapped}
 use Rattle.laws.specs.Loadable.{Loadable, in-blocks}
+use Rattle.laws.specs.Blocks.{InOrder, takes, selects, emits, length-actions, step-inside, step-in-order}
 use Rattle.tracing.specs.Runs.{stepAt, runAt, workingAt, placeAt, run-step, working-take, working-stays, step-count, independent-at, steps-same, count-same}
 
 -- ---- the list so far
@@ -116,44 +118,20 @@ module _ (m : Map) (x : ℕ) where
 -- ---- W places
 
 -- a rule in blocks begins with a take
-module _ (m : Map) (L : Loadable m) where
-  broken : (k : ℕ) → standing m 1 ≡ Broken → standing m (suc k) ≡ Broken
-  unfolding standing stand
-  broken zero e = e
-  broken (suc k) e = rw (broken k e)
-
-  first-take : (b : ℕ) × (stepAt m 0 ≡ Take b)
-  unfolding standing stand isOutside
-  first-take = go (stepAt m 0) refl
-    where
-      never : standing m 1 ≡ Broken → ⊥
-      never e = at-end (length (m .steps)) (in-blocks m (L .inBlocks) .least) (in-blocks m (L .inBlocks) .outside)
-        where
-          at-end : (l : ℕ) → 1 ≤ l → isOutside (standing m l) ≡ true → ⊥
-          at-end zero h o = omega arith
-          at-end (suc l) h o = false≢true (sym (ap isOutside (broken l e)) ∙ o)
-
-      go : (a : Action) → stepAt m 0 ≡ a → (b : ℕ) × (stepAt m 0 ≡ Take b)
-      go (Take b) e = (b, e)
-      go (Select mode n t) e = absurd (never (ap (stand m Outside) e))
-      go Emit e = absurd (never (ap (stand m Outside) e))
-      go Idle e = absurd (never (ap (stand m Outside) e))
+first-take : (m : Map) → Loadable m → (b : ℕ) × (stepAt m 0 ≡ Take b)
+unfolding standing
+first-take m L = go (step-in-order m (L .inBlocks) 0 (omega (arith, length-actions m, in-blocks m (L .inBlocks) .least))) refl
+  where
+    go : {st st′ : Standing} {a : Action} → InOrder m st a st′ → st ≡ Outside → (b : ℕ) × (a ≡ Take b)
+    go (takes {b}) e = (b, refl)
+    go (selects l) e = absurd (let z : _≡_ {A = ℕ} 0 1 = cc in omega arith)
+    go emits e = absurd (let z : _≡_ {A = ℕ} 0 1 = cc in omega arith)
 
 -- a take's block does not go by what was there before
 widths-first : (p q b : ℕ) (actions : List Action) → getD actions 0 Idle ≡ Take b → widthsFrom p actions ≡ widthsFrom q actions
 unfolding widthsFrom
 widths-first p q b [] e = refl
 widths-first p q b (a ∷ rest) e = rw e
-
--- a step that emits is one of the rule's
-emit-inside : (m : Map) (k : ℕ) → stepAt m k ≡ Emit → k < length (actionsOf m)
-emit-inside m k e = go (decLt k (length (actionsOf m)))
-  where
-    go : Dec (k < length (actionsOf m)) → k < length (actionsOf m)
-    go (yes h) = h
-    go (no f) =
-        let q : stepAt m k ≡ Idle = List·getD-eq-default (actionsOf m) Idle {n = k} (omega arith) in
-        absurd (let z : _≡_ {A = ℕ} 0 1 = cc in omega arith)
 
 module _ (m : Map) (x : ℕ) (L : Loadable m) (ind : independent m ≡ true) where
   -- what the steps behind the first k will emit
@@ -205,7 +183,7 @@ module _ (m : Map) (x : ℕ) (L : Loadable m) (ind : independent m ≡ true) whe
 
   -- and is the same as there
   pub placed-place : (j k p : ℕ) → Emitted m x j k p → getD (placedOf m x .places) j nowhere ≡ placeAt m x k p
-  placed-place j k p E = rw placed-list (list-place m x (length (actionsOf m)) j k p (emit-inside m k (E .emits)) E .1)
+  placed-place j k p E = rw placed-list (list-place m x (length (actionsOf m)) j k p (step-inside (actionsOf m) k (λ e. let q = E .emits in let z : _≡_ {A = ℕ} 0 1 = cc in omega arith)) E .1)
 
 -- ---- the list's places go by the steps alone
 

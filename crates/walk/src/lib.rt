@@ -1,11 +1,10 @@
 // Document 01, "Walk, select and rule": the test of an item, a turn of a rank, and a rank.
 ghost use mathlib.Core.Path.{_≡_};
-ghost use mathlib.Core.List.{List};
-ghost use Prim.Native.Nat.{ℕ, _<_, _≤_};
-ghost use lib.ListN.{length};
+ghost use Prim.Native.Nat.{_<_, _≤_};
 ghost use Rattle.definitions.specs.Lists.{has};
-ghost use Rattle.definitions.specs.Walk.{accepted, verdictOf, tryNumber, failedTo, retryAt, onVerdict, rankEnd, turnOf, rankOf};
-ghost use Rattle.hierarchy.specs.Arrays.{viewFrom, ItemRange, Sound};
+ghost use Rattle.definitions.specs.Walk.{accepted, verdictOf, failedTo, retryAt, onVerdict, rankEnd};
+ghost use Rattle.hierarchy.specs.Arrays.{viewIn, ItemRange, Sound};
+ghost use Rattle.walk.specs.Searches.{SearchBounds, tryAt, turnAt, rankAt};
 ghost use Rattle.walk.specs.Bounds.{Going, TurnBounds, RankBounds};
 use definitions::Drawn;
 use definitions::Mode;
@@ -13,21 +12,37 @@ use definitions::Ranked;
 use definitions::State;
 use definitions::Turn;
 use definitions::Verdict;
+use hierarchy::Plan;
+use hierarchy::Values;
 use item::Item;
 
 // "a hole (ffff)": the number of no item.
 pub const HOLE: u32 = 65535;
 
-// Does item i pass acceptance? A bucket always does. Nothing of the map but the acceptances is read.
-pub fn accepts(acceptance: &[u32], seed: u32, x: u32, i: u32) -> bool
-    requires { ⌜ (length (now acceptance) ≡ 1024) × ItemRange i ⌝ }
-    ensures { λ a. ⌜ ((first count types items weights : List ℕ) → a ≡ accepted
-        (viewFrom seed first count types items weights (now (acceptance .entry))) x i) ⌝ }
+// What a select looks for at each bucket of the working list: n items of type t.
+pub struct Wanted {
+    pub mode: Mode,
+    pub n: u32,
+    pub t: u32,
+}
+
+// One rank of a select: what it looks for, the bucket that it starts at, and its number r.
+pub struct Search {
+    pub wanted: Wanted,
+    pub start: u32,
+    pub r: u32,
+}
+
+// Does item i pass acceptance? A bucket always does.
+pub fn accepts<'a>(plan: &'a Plan, values: &'a Values, x: u32, i: u32) -> bool
+    requires { ⌜ ItemRange i ⌝ }
+    ensures { λ a. ⌜ a ≡ accepted (viewIn (now (plan .entry)) (now (values .entry))) x i ⌝ }
 {
-    if i >= Item::BUCKET_BASE {
+    let item = Item::numbered(i);
+    if item.is_bucket() {
         return true;
     }
-    jenkins::hash2(seed, x, i) % 65536 < acceptance[i as usize]
+    jenkins::hash2(plan[hierarchy::SEED], x, i) % 65536 < values[i as usize]
 }
 
 // Is item i among the entries?
@@ -45,15 +60,20 @@ pub fn holds(entries: &[u32], i: u32) -> bool
 }
 
 // The end of the test of item i.
-pub fn verdict(acceptance: &[u32], seed: u32, x: u32, entries: &[u32], i: u32) -> Verdict
-    requires { ⌜ (length (now acceptance) ≡ 1024) × ItemRange i ⌝ }
-    ensures { λ w. ⌜ ((first count types items weights : List ℕ) → w ≡ verdictOf
-        (viewFrom seed first count types items weights (now (acceptance .entry))) x (now (entries .entry)) i) ⌝ }
+pub fn verdict<'a, 'b>(
+    plan: &'a Plan,
+    values: &'a Values,
+    x: u32,
+    entries: &'b [u32],
+    i: u32,
+) -> Verdict
+    requires { ⌜ ItemRange i ⌝ }
+    ensures { λ w. ⌜ w ≡ verdictOf (viewIn (now (plan .entry)) (now (values .entry))) x (now (entries .entry)) i ⌝ }
 {
     if holds(entries, i) {
         return Verdict::Held;
     }
-    if accepts(acceptance, seed, x, i) {
+    if accepts(plan, values, x, i) {
         Verdict::Passed
     } else {
         Verdict::Rejected
@@ -61,13 +81,15 @@ pub fn verdict(acceptance: &[u32], seed: u32, x: u32, entries: &[u32], i: u32) -
 }
 
 // "In each draw r' is r + f_r × n (independent) or r + f (first-n)."
-pub fn try_number(mode: Mode, n: u32, r: u32, s: State) -> u32
-    requires { ⌜ (n ≤ 16) × (r ≤ 16) × Going s ⌝ }
-    ensures { λ q. ⌜ q ≡ tryNumber mode n r s ⌝ }
+pub fn try_number(search: Search, s: State) -> u32
+    requires { ⌜ SearchBounds search × Going s ⌝ }
+    ensures { λ q. ⌜ q ≡ tryAt search s ⌝ }
 {
+    let wanted = search.wanted;
+    let mode = wanted.mode;
     match mode {
-        Mode::FirstN => r + s.f,
-        Mode::Independent => r + s.fr * n,
+        Mode::FirstN => search.r + s.f,
+        Mode::Independent => search.r + s.fr * wanted.n,
     }
 }
 
@@ -106,39 +128,30 @@ pub fn on_verdict(start: u32, s: State, b: u32, i: u32, w: Verdict) -> Turn
 
 // One turn of a rank: a descent, and the test of what it comes to.
 pub fn turn<'a, 'b>(
-    first: &'a [u32],
-    count: &'a [u32],
-    types: &'a [u32],
-    items: &'a [u32],
-    weights: &'a [u32],
-    acceptance: &'a [u32],
-    seed: u32,
+    plan: &'a Plan,
+    values: &'a Values,
     x: u32,
-    mode: Mode,
-    n: u32,
-    t: u32,
+    search: Search,
     entries: &'b [u32],
-    start: u32,
-    r: u32,
     s: State,
 ) -> Turn
-    requires { ⌜ Sound (now first) (now count) (now types) (now items) (now weights) ⌝ }
-    requires { ⌜ (length (now acceptance) ≡ 1024) × (start < 256) × (n ≤ 16) × (r ≤ 16) × (s .at < 256) × Going s ⌝ }
-    ensures { λ k. ⌜ k ≡ turnOf
-        (viewFrom seed (now (first .entry)) (now (count .entry)) (now (types .entry)) (now (items .entry)) (now (weights .entry)) (now (acceptance .entry)))
-        x mode n t (now (entries .entry)) start r s .turn ⌝ }
-    ensures bounds { λ k. ⌜ TurnBounds (now (types .entry)) t k ⌝ }
+    requires { ⌜ Sound (now plan) ⌝ }
+    requires { ⌜ SearchBounds search × (s .at < 256) × Going s ⌝ }
+    ensures { λ k. ⌜ k ≡ turnAt (viewIn (now (plan .entry)) (now (values .entry))) x search (now (entries .entry)) s .turn ⌝ }
+    ensures bounds { λ k. ⌜ TurnBounds (now (plan .entry)) (search .wanted .t) k ⌝ }
 {
-    let q = try_number(mode, n, r, s);
-    let l = descent::descend(first, count, types, items, weights, seed, x, t, q, s.at);
+    let t = search.wanted.t;
+    let start = search.start;
+    let q = try_number(search, s);
+    let l = descent::descend(plan, values, x, t, q, s.at);
     let drawn = l.drawn;
     let Drawn::Winner(i) = drawn else {
         return Turn::Fail(failed_to(start, s));
     };
-    if descent::type_of(types, i) != t {
+    if descent::type_of(plan, i) != t {
         return Turn::Fail(failed_to(start, s));
     }
-    let w = verdict(acceptance, seed, x, entries, i);
+    let w = verdict(plan, values, x, entries, i);
     on_verdict(start, s, l.bucket, i, w)
 }
 
@@ -155,52 +168,25 @@ fn rank_end(i: u32, s: State) -> Ranked
 
 // One rank: turns until a place is filled, or f_r is 50. f0 is f as the rank starts.
 pub fn rank<'a, 'b>(
-    first: &'a [u32],
-    count: &'a [u32],
-    types: &'a [u32],
-    items: &'a [u32],
-    weights: &'a [u32],
-    acceptance: &'a [u32],
-    seed: u32,
+    plan: &'a Plan,
+    values: &'a Values,
     x: u32,
-    mode: Mode,
-    n: u32,
-    t: u32,
+    search: Search,
     entries: &'b [u32],
-    start: u32,
-    r: u32,
     f0: u32,
 ) -> Ranked
-    requires { ⌜ Sound (now first) (now count) (now types) (now items) (now weights) ⌝ }
-    requires { ⌜ (length (now acceptance) ≡ 1024) × (start < 256) × (n ≤ 16) × (r ≤ 16) × (f0 ≤ 1000) ⌝ }
-    ensures { λ k. ⌜ k ≡ rankOf
-        (viewFrom seed (now (first .entry)) (now (count .entry)) (now (types .entry)) (now (items .entry)) (now (weights .entry)) (now (acceptance .entry)))
-        x mode n t (now (entries .entry)) start r f0 .ranked ⌝ }
-    ensures bounds { λ k. ⌜ RankBounds (now (types .entry)) t f0 k ⌝ }
+    requires { ⌜ Sound (now plan) ⌝ }
+    requires { ⌜ SearchBounds search × (f0 ≤ 1000) ⌝ }
+    ensures { λ k. ⌜ k ≡ rankAt (viewIn (now (plan .entry)) (now (values .entry))) x search (now (entries .entry)) f0 .ranked ⌝ }
+    ensures bounds { λ k. ⌜ RankBounds (now (plan .entry)) (search .wanted .t) f0 k ⌝ }
 {
     let mut s = State {
-        at: start,
+        at: search.start,
         fr: 0,
         f: f0,
     };
     while s.fr < 50 {
-        let k = turn(
-            first,
-            count,
-            types,
-            items,
-            weights,
-            acceptance,
-            seed,
-            x,
-            mode,
-            n,
-            t,
-            entries,
-            start,
-            r,
-            s,
-        );
+        let k = turn(plan, values, x, search, entries, s);
         match k {
             Turn::Fill(i) => {
                 return rank_end(i, s);

@@ -1,50 +1,62 @@
 -- `causes::place_cause` meets its contract: each way out is a case of where the places above part. Assumes nothing.
-use mathlib.Core.Path.{refl}
+use mathlib.Core.Path.{_≡_, refl, ap, _∙_}
 use Prim.Native.Nat.{_<_, _≤_}
 use native.Mathlib.Omega.{arith}
 use borrow.Author.Needs.{needs}
+use Rattle.definitions.specs.Map.{bucketNumber}
 use Rattle.definitions.specs.View.{View}
-use Rattle.hierarchy.specs.Arrays.{viewFrom}
+use Rattle.hierarchy.specs.Arrays.{viewIn}
 use Rattle.placement.specs.Working.{bucket-of}
 use Rattle.causes.specs.Under.{tells-above, tells-hole, tells-rank}
 use Rattle.causes.proofs.place_cause.Statement.{statement}
 use Rattle.causes.proofs.place_cause.Tie as tie
 
 -- where the function starts
-abbrev start : tie.Else1 → tie.Start
-start c = c .before .before .before .before .before .before .before .before .before .before .before
+abbrev begin : tie.After-struct-known → tie.Start
+begin c = c .before .before .before
+
+abbrev begin2 : tie.After-struct-known2 → tie.Start
+begin2 c = begin (c .before .before)
 
 -- what the two runs read
 abbrev old : tie.Start → View
-old s = let a = s .args in viewFrom (a .seed) (a .first .now) (a .count .now) (a .types .now) (a .items .now) (a .weights .now) (a .acceptance .now)
+old s = let a = s .args in viewIn (a .plan .now) (a .old .now)
 
 abbrev new : tie.Start → View
-new s = let a = s .args in viewFrom (a .seed) (a .first .now) (a .count .now) (a .types .now) (a .items .now) (a .weights2 .now) (a .acceptance2 .now)
+new s = let a = s .args in viewIn (a .plan .now) (a .new .now)
 
 -- what is no hole is a bucket
-bucket : (c : tie.Else2) → let s = start (c .before) in (65536 ≤ s .args .e) × (s .args .e < 65792)
-bucket c = let s = start (c .before) in bucket-of (s .args .e) (s .pre .1 .1 .1 .2) (c .if2 .left)
+bucket : (c : tie.Else2) → let e = begin2 (c .before) .args .above .entry in (65536 ≤ e) × (e < 65792)
+bucket c = let s = begin2 (c .before) in bucket-of (s .args .above .entry) (s .pre .1 .3) (c .if2 .left)
+
+-- and its number is told
+number : (c : tie.After-bucket-number) → c .bucket-number .result ≡ bucketNumber (begin2 (c .before .before .before) .args .above .entry)
+number c = c .bucket-number .ensures ∙ ap bucketNumber (c .before .numbered .ensures)
 
 returns : tie.Need-returns
 returns c =
-    let s = c .before .before .before .before .before .before .before .before .before .before .before in
+    let s = begin (c .before) in
     let a = s .args in
-    tells-above (old s) (new s) (a .x) (a .n) (a .t) (a .entries .now) (a .entries2 .now) (a .above) (a .e) (a .r) (c .if1 .taken)
+    tells-above (old s) (new s) (a .x) (a .wanted .n) (a .wanted .t) (a .olds .now) (a .news .now) (a .above .cause) (a .above .entry) (a .r) (c .if1 .taken)
 
 returns-2 : tie.Need-returns-2
 returns-2 c =
-    let s = start (c .before) in
+    let s = begin2 (c .before) in
     let a = s .args in
-    tells-hole (old s) (new s) (a .x) (a .n) (a .t) (a .entries .now) (a .entries2 .now) (a .above) (a .e) (a .r) (c .before .if1 .left) (c .if2 .taken)
+    tells-hole (old s) (new s) (a .x) (a .wanted .n) (a .wanted .t) (a .olds .now) (a .news .now) (a .above .cause) (a .above .entry) (a .r) (c .before .before .if1 .left) (c .if2 .taken)
 
-sub-b : tie.Need-sub-b
-sub-b c = bucket c .0
+numbered-requires : tie.Need-numbered-requires
+numbered-requires c κs = search needs
+
+bucket-number-requires : tie.Need-bucket-number-requires
+bucket-number-requires c κs = omega (arith, bucket (c .before) .0, c .numbered .ensures)
 
 part-rank-requires : tie.Need-part-rank-requires
 part-rank-requires c κs =
-    let s = start (c .before) in
-    let b = bucket c in
-    (s .pre .0, (s .pre .1 .0, (s .pre .1 .1 .0, (omega (arith, b .0, b .1), s .pre .1 .1 .1 .0, s .pre .1 .1 .1 .1, omega arith))))
+    let e = c .before .before in
+    let s = begin2 (e .before) in
+    let b = bucket e in
+    (s .pre .0, ((omega (arith, number c, b .0, b .1), s .pre .1 .1, omega (arith, s .pre .1 .2)), omega arith))
 
 cause-requires : tie.Need-cause-requires
 cause-requires c κs = search needs
@@ -52,11 +64,21 @@ cause-requires c κs = search needs
 returns-3 : tie.Need-returns-3
 returns-3 c =
     let k = c .before in
-    let s = start (k .before .before) in
+    let b = k .before in
+    let e = b .before .before in
+    let s = begin2 (e .before) in
     let a = s .args in
     rw (c .cause .ensures)
-    (tells-rank (old s) (new s) (a .x) (a .n) (a .t) (a .entries .now) (a .entries2 .now) (a .above) (a .e) (a .r) (λ i. refl) (k .before .before .if1 .left) (k .before .if2 .left) (k .part-rank .result) (k .part-rank .ensures))
+    (tells-rank (old s) (new s) (a .x) (a .wanted .n) (a .wanted .t) (a .olds .now) (a .news .now) (a .above .cause) (a .above .entry) (a .r) (λ i. refl) (e .before .before .if1 .left) (e .if2 .left) _ _ (k .part-rank .result) (s .pre .1 .0) (number b) (k .part-rank .ensures))
 
 pub place-cause-spec : {M : Type 1} → statement M
 place-cause-spec =
-    tie.close (tie.spec returns returns-2 sub-b part-rank-requires cause-requires returns-3)
+    tie.close
+    (tie.spec
+    returns
+    returns-2
+    numbered-requires
+    bucket-number-requires
+    part-rank-requires
+    cause-requires
+    returns-3)

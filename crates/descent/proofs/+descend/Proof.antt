@@ -4,11 +4,10 @@ use Prim.Native.Nat.{ℕ, _<_, _≤_}
 use mathlib.Core.Path.{_≡_, sym, _∙_, subst}
 use native.Mathlib.Omega.{arith}
 use borrow.Author.Needs.{needs}
-use lib.ListN.{getD}
 use Rattle.definitions.specs.Map.{bucketNumber}
 use Rattle.definitions.specs.declared.Drawn.the-variants.{Winner}
-use Rattle.definitions.specs.Straw.{drawOf}
-use Rattle.hierarchy.specs.Arrays.{partOf, typeIn, ItemRange}
+use Rattle.definitions.specs.Walk.{drawAt}
+use Rattle.hierarchy.specs.Arrays.{bucketTypeIn, typeIn, viewIn, ItemRange}
 use Rattle.descent.specs.Descent.{winner-range, winner-falls, typed-bucket, bucket-below, type-bucket, lands-none, lands-stop, lands-down}
 use borrow.Fn.Kinds.{In}
 use borrow.Fn.PlainCycle.{Measures, is, falls, and}
@@ -17,12 +16,13 @@ use Rattle.descent.proofs.descend.Kinds as descend-kinds
 use Rattle.descent.proofs.+descend.Lts-descend as descend-lts
 use Rattle.descent.proofs.draw_at.Reads as draw-at-reads
 use Rattle.descent.proofs.type_of.Reads as type-of-reads
+use Rattle.item.proofs.Item.numbered.Reads as numbered-reads
 use Rattle.item.proofs.Item.bucket_number.Reads as bucket-number-reads
 use Rattle.descent.proofs.+descend.{statement}
 use Rattle.descent.proofs.+descend.Tie.{close}
 
 abbrev μ-descend : Measures 1 descend-kinds.ps ℕ
-μ-descend κs a = getD (a .1 .1 .0 .now) (a .1 .1 .1 .1 .1 .1 .1 .1 .1 .0) 0
+μ-descend κs a = bucketTypeIn (a .0 .now) (a .1 .1 .1 .1 .1 .0)
 
 abbrev descend-at : ℕ → In 1 descend-kinds.ps
 descend-at t = and 1 descend-kinds.ps (is 1 descend-kinds.ps μ-descend t) descend.Pre
@@ -33,19 +33,18 @@ descend-below t = and 1 descend-kinds.ps (falls 1 descend-kinds.ps _<_ μ-descen
 -- what the callees ask and give
 abbrev gs : ℕ → descend-lts.Claims
 gs t =
-    (draw-at-reads.Asked, draw-at-reads.Learnt, type-of-reads.Asked, type-of-reads.Learnt, bucket-number-reads.Asked, bucket-number-reads.Learnt, descend-below t, descend.Post)
+    (draw-at-reads.Asked, draw-at-reads.Learnt, type-of-reads.Asked, type-of-reads.Learnt, numbered-reads.Asked, numbered-reads.Learnt, bucket-number-reads.Asked, bucket-number-reads.Learnt, descend-below t, descend.Post)
 
 -- where the function starts, from where the draw was made and from where the winner is known
 abbrev begin : (t : ℕ) → descend-lts.After-draw-at (gs t) (descend-at t) descend.Post → descend-lts.Start (gs t) (descend-at t) descend.Post
-begin t c = c .before .before .before .before .before .before
+begin t c = c .before
 
 abbrev start : (t : ℕ) → descend-lts.After-i (gs t) (descend-at t) descend.Post → descend-lts.Start (gs t) (descend-at t) descend.Post
 start t c = begin t (c .before .before)
 
 -- the draw made is the definition's
 drew : (t : ℕ) (c : descend-lts.After-draw-at (gs t) (descend-at t) descend.Post)
-    → let a = begin t c .args in
-    drawOf (a .seed) (a .x) (a .r) (partOf (a .first .now) (a .count .now) (a .b) (a .items .now)) (partOf (a .first .now) (a .count .now) (a .b) (a .weights .now)) ≡ c .draw-at .result
+    → let a = begin t c .args in drawAt (viewIn (a .plan .now) (a .values .now)) (a .x) (a .r) (a .b) ≡ c .draw-at .result
 drew t c = sym (c .draw-at .ensures)
 
 -- its winner is in range
@@ -53,20 +52,14 @@ abbrev winner : (t : ℕ) → descend-lts.After-i (gs t) (descend-at t) descend.
 winner t c = c .i .given .0 .0
 
 won : (t : ℕ) (c : descend-lts.After-i (gs t) (descend-at t) descend.Post)
-    → let a = start t c .args in
-    drawOf (a .seed) (a .x) (a .r) (partOf (a .first .now) (a .count .now) (a .b) (a .items .now)) (partOf (a .first .now) (a .count .now) (a .b) (a .weights .now)) ≡ Winner (winner t c)
+    → let a = start t c .args in drawAt (viewIn (a .plan .now) (a .values .now)) (a .x) (a .r) (a .b) ≡ Winner (winner t c)
 won t c = drew t (c .before .before) ∙ c .i .given .1
 
 ranged : (t : ℕ) (c : descend-lts.After-i (gs t) (descend-at t) descend.Post) → ItemRange (winner t c)
-ranged t c = let s = start t c in winner-range (s .pre .1 .0) _ _ _ _ _ (s .pre .1 .1) (won t c)
+ranged t c = let s = start t c in winner-range (s .pre .1 .0) _ _ _ _ _ (won t c)
 
 descend-draw-at-requires : (t : ℕ) → descend-lts.Need-draw-at-requires (gs t) (descend-at t) descend.Post
-descend-draw-at-requires t c κs =
-    let s = c .before .before .before .before .before in
-    let sound = s .pre .1 .0 in
-    let b = s .args .b in
-    let h = s .pre .1 .1 in
-    ((omega (arith, sound .firsts), omega (arith, sound .counts), sound .paired), (sound .inside b h, sound .narrow b h))
+descend-draw-at-requires t c κs = search needs
 
 descend-enum-known-i : (t : ℕ) → descend-lts.Need-enum-known-i (gs t) (descend-at t) descend.Post
 descend-enum-known-i t c = search needs
@@ -83,37 +76,46 @@ descend-returns t c =
     )
 
 descend-type-of-requires : (t : ℕ) → descend-lts.Need-type-of-requires (gs t) (descend-at t) descend.Post
-descend-type-of-requires t c κs = (start t (c .before) .pre .1 .0 .typed, ranged t (c .before))
+descend-type-of-requires t c κs = ranged t (c .before)
 
 -- the type of an item that is gone down to is above the wanted one, so it is a bucket's
 goes : (t : ℕ) (c : descend-lts.Then1 (gs t) (descend-at t) descend.Post)
-    → let w = c .before .before .before in let a = start t w .args in a .t < typeIn (a .types .now) (winner t w)
+    → let w = c .before .before .before in let a = start t w .args in a .t < typeIn (a .plan .now) (winner t w)
 goes t c = omega (arith, c .before .type-of .ensures, c .if1 .taken)
 
 above : (t : ℕ) (c : descend-lts.Then1 (gs t) (descend-at t) descend.Post) → 65536 ≤ winner t (c .before .before .before)
-above t c = let w = c .before .before .before in let a = start t w .args in typed-bucket (a .types .now) (winner t w) (a .t) (goes t c)
+above t c = let w = c .before .before .before in let a = start t w .args in typed-bucket (a .plan .now) (winner t w) (a .t) (goes t c)
+
+descend-numbered-requires : (t : ℕ) → descend-lts.Need-numbered-requires (gs t) (descend-at t) descend.Post
+descend-numbered-requires t c κs = search needs
 
 descend-bucket-number-requires : (t : ℕ) → descend-lts.Need-bucket-number-requires (gs t) (descend-at t) descend.Post
-descend-bucket-number-requires t c κs = above t c
+descend-bucket-number-requires t c κs = rw (c .numbered .ensures) (above t (c .before))
+
+-- and this is the bucket
+child : (t : ℕ) (c : descend-lts.After-bucket-number (gs t) (descend-at t) descend.Post)
+    → c .bucket-number .result ≡ bucketNumber (winner t (c .before .before .before .before .before))
+child t c = rw (c .before .numbered .ensures) at (c .bucket-number .ensures)
 
 descend-descend-requires : (t : ℕ) → descend-lts.Need-descend-requires (gs t) (descend-at t) descend.Post
 descend-descend-requires t c κs =
-    let w = c .before .before .before .before in
+    let u = c .before .before in
+    let w = u .before .before .before in
     let s = start t w in
     let a = s .args in
-    let h = above t (c .before) in
+    let h = above t u in
     let sound = s .pre .1 .0 in
-    let falls : getD (a .types .now) (bucketNumber (winner t w)) 0 < getD (a .types .now) (a .b) 0 =
-    rw (type-bucket (a .types .now) (winner t w) h) at (winner-falls sound _ _ _ _ _ (s .pre .1 .1) (won t w)) in
-    rw (c .bucket-number .ensures) (rw (s .pre .0) at falls, (sound, bucket-below (winner t w) (ranged t w) h))
+    let falls : bucketTypeIn (a .plan .now) (bucketNumber (winner t w)) < bucketTypeIn (a .plan .now) (a .b) =
+    rw (type-bucket (a .plan .now) (winner t w) h) at (winner-falls sound _ _ _ _ _ (won t w)) in
+    rw (child t c) (rw (s .pre .0) at falls, (sound, bucket-below (winner t w) (ranged t w) h))
 
 descend-returns-2 : (t : ℕ) → descend-lts.Need-returns-2 (gs t) (descend-at t) descend.Post
 descend-returns-2 t c =
-    let u = c .before .before in
+    let u = c .before .before .before in
     let w = u .before .before .before in
     let s = start t w in (
       lands-down (s .pre .1 .0) _ _ _ _ _ _ (won t w) (goes t u) (c .descend .result)
-          (rw (c .before .bucket-number .ensures) at (c .descend .ensures .0)),
+          (rw (child t (c .before)) at (c .descend .ensures .0)),
       c .descend .ensures .1,
     )
 
@@ -121,7 +123,7 @@ descend-returns-3 : (t : ℕ) → descend-lts.Need-returns-3 (gs t) (descend-at 
 descend-returns-3 t c =
     let w = c .before .before .before in
     let s = start t w in
-    let stops : typeIn (s .args .types .now) (winner t w) ≤ s .args .t = omega (arith, c .before .type-of .ensures, c .if1 .left) in (
+    let stops : typeIn (s .args .plan .now) (winner t w) ≤ s .args .t = omega (arith, c .before .type-of .ensures, c .if1 .left) in (
       lands-stop (s .pre .1 .0) _ _ _ _ _ _ (won t w) stops,
       (s .pre .1 .1, λ i e. let q : winner t w ≡ i = cc in subst ItemRange q (ranged t w)),
     )
@@ -135,6 +137,7 @@ pub +descend-spec : {M : Type 1} → statement M
     (descend-enum-told t)
     (descend-returns t)
     (descend-type-of-requires t)
+    (descend-numbered-requires t)
     (descend-bucket-number-requires t)
     (descend-descend-requires t)
     (descend-returns-2 t)

@@ -1,15 +1,33 @@
 -- `walk::accepts` meets its contract: a bucket passes, and a device by its hash. Assumes nothing.
+use mathlib.Core.Path.{_≡_, sym, ap, _∙_}
+use mathlib.Core.Bool.{Bool}
+use Prim.Native.Nat.{_<_}
 use native.Mathlib.Omega.{arith}
-use borrow.Author.Tests.{le-leb, lt-leb}
+use borrow.Author.Tests.{leb-false}
+use Rattle.definitions.specs.Map.{isBucket}
 use Rattle.definitions.specs.Walk.{accepts, deviceAccepts, accepted}
+use Rattle.hierarchy.specs.Sections.{section-front}
 use Rattle.walk.specs.Bounds.{device-below}
 use borrow.Author.Needs.{needs}
 use Rattle.walk.proofs.accepts.Statement.{statement}
 use Rattle.walk.proofs.accepts.Tie as tie
 
+numbered-requires : tie.Need-numbered-requires
+numbered-requires c κs = search needs
+
+is-bucket-requires : tie.Need-is-bucket-requires
+is-bucket-requires c κs = search needs
+
+-- the test ends with t: so does the definition's
+told : (c : tie.After-is-bucket) (t : Bool) → c .is-bucket .result ≡ t → isBucket (c .before .before .args .i) ≡ t
+told c t e = sym (c .is-bucket .ensures ∙ ap isBucket (c .before .numbered .ensures)) ∙ e
+
 returns : tie.Need-returns
 unfolding accepted
-returns c first count types items weights = simp (le-leb 65536 (c .before .before .args .i) (omega (arith, c .if1 .taken)))
+returns c = simp (told (c .before) _ (c .if1 .taken))
+
+element-copy-out-hash2 : tie.Need-element-copy-out-hash2
+element-copy-out-hash2 c = search needs
 
 hash2-requires : tie.Need-hash2-requires
 hash2-requires c κs = search needs
@@ -17,18 +35,21 @@ hash2-requires c κs = search needs
 mul-result : tie.Need-mul-result
 mul-result c = search needs
 
-shared-slice-read-result : tie.Need-shared-slice-read-result
-shared-slice-read-result c =
-    let e = c .before .before in
-    let s = e .before .before in
-    omega (arith, s .pre .0, device-below (s .args .i) (s .pre .1) (omega (arith, e .if1 .left)))
+-- an item that is no bucket's is a device below 1,024
+below : (c : tie.Else1) → c .before .before .before .args .i < 1024
+below c =
+    let s = c .before .before .before in
+    device-below (s .args .i) (s .pre) (leb-false 65536 (s .args .i) (told (c .before) _ (c .if1 .left)))
+
+element-copy-out-result : tie.Need-element-copy-out-result
+element-copy-out-result c = omega (arith, below (c .before .before))
 
 returns-2 : tie.Need-returns-2
 unfolding accepted deviceAccepts accepts
-returns-2 c first count types items weights =
-    let e = c .before .before in
-    simp (lt-leb 65536 (e .before .before .args .i) (omega (arith, e .if1 .left)), ← c .before .hash2 .ensures)
+returns-2 c =
+    let e = c .before .before .before in
+    let a = e .before .before .before .args in
+    simp (told (e .before) _ (e .if1 .left), ← c .before .hash2 .ensures, section-front 1024 (a .i) (a .values .now) (below e))
 
 pub accepts-spec : {M : Type 1} → statement M
-accepts-spec =
-    tie.close (tie.spec returns hash2-requires mul-result shared-slice-read-result returns-2)
+accepts-spec = tie.close (tie.spec numbered-requires is-bucket-requires returns element-copy-out-hash2 hash2-requires mul-result element-copy-out-result returns-2)

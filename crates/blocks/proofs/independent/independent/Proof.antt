@@ -12,7 +12,7 @@ use Rattle.definitions.specs.Map.{mapOf, actionsOf}
 use Rattle.definitions.specs.Calls.{notFirstN, independent}
 use Rattle.laws.specs.Lists.{every-next, every-stop, every-end}
 use Rattle.text.specs.Records.{shape-steps}
-use Rattle.blocks.specs.Actions.{length-actions}
+use Rattle.laws.specs.Blocks.{length-actions}
 use borrow.Author.Needs.{needs}
 use Rattle.blocks.proofs.independent.independent.Statement.{statement}
 use Rattle.blocks.proofs.independent.independent.Tie as tie

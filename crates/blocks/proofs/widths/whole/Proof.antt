@@ -8,7 +8,8 @@ use Rattle.definitions.specs.declared.Action.the-variants.{Idle}
 use Rattle.definitions.specs.Map.{mapOf, actionsOf}
 use Rattle.text.specs.Records.{shape-steps}
 use Rattle.blocks.specs.declared.widths.Tally.{Tally}
-use Rattle.blocks.specs.Actions.{length-actions, action-ranged}
+use Rattle.laws.specs.Blocks.{length-actions}
+use Rattle.blocks.specs.Actions.{action-ranged}
 use Rattle.blocks.specs.Widths.{widened, widenedBy, start, widened-next, widened-end, widened-small, whole-is}
 use borrow.Author.Needs.{needs}
 use Rattle.blocks.proofs.widths.whole.Statement.{statement}

@@ -1,6 +1,5 @@
 -- `engine::day::day_group` meets its contract: 14, then the hash of the show and the day. Assumes nothing.
-use mathlib.Core.Path.{_≡_, sym, ap, _∙_}
-use Prim.Native.Nat.{ℕ, _%_}
+use mathlib.Core.Path.{sym, _∙_}
 use native.Mathlib.Omega.{arith}
 use Rattle.definitions.specs.View.{viewOf}
 use Rattle.definitions.specs.Writing.{dayGroup}

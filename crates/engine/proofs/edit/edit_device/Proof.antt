@@ -1,65 +1,71 @@
 -- `engine::edit::edit_device` meets its contract: 19, 20, then the moves, the rows and the value. Assumes nothing.
 use mathlib.Core.Path.{_≡_, ap₂, subst}
+use mathlib.Core.Bool.{true}
 use Prim.Native.Nat.{ℕ, _*_, _≤_}
 use native.Mathlib.Omega.{arith}
 use lib.ListN.{length}
 use Rattle.definitions.specs.Map.{Map, mapOf}
 use Rattle.definitions.specs.Rule.{widthOf}
 use Rattle.definitions.specs.Edit.{put}
-use Rattle.laws.specs.Loadable.{bounds}
-use Rattle.text.specs.Records.{shape-steps}
 use Rattle.text.specs.Agreement.{loaded-map}
-use Rattle.survey.specs.Between as betweens
+use Rattle.survey.specs.Between.{Between, Answers, few, selects, old-long, new-long}
 use Rattle.survey.specs.Surveyed.{fresh-rows}
-use Rattle.engine.specs.Paired.{Asked, between, old-ready, new-ready}
+use Rattle.engine.specs.Paired.{Asked, between, both-run}
 use Rattle.engine.specs.Editing.{room-for, stale, short, done}
 use borrow.Author.Needs.{needs}
 use borrow.Author.Tests.{not-true, not-false}
 use Rattle.engine.proofs.edit.edit_device.Statement.{statement}
 use Rattle.engine.proofs.edit.edit_device.Tie as tie
 
+-- the map, and as the edit leaves it
 abbrev old : tie.Start → Map
 old s = mapOf (s .args .map .now)
 
--- what is known of the two maps
-asked : (s : tie.Start) → Asked (old s) (s .args .c) (s .args .s .steps) (s .args .groups) (s .args .w)
+abbrev new : tie.Start → Map
+new s = put (old s) (s .args .c)
+
+-- what is known of the two
+asked : (s : tie.Start) → Asked (old s) (s .args .c) (s .args .groups) (s .args .w)
 asked s =
     record {
       loadable = loaded-map _ (s .pre .0 .0);
       fit = s .pre .1 .0 .0;
       only = s .pre .0 .2;
-      steps = shape-steps (s .args .map .now) (s .args .s) (s .pre .0 .1);
       groups = s .pre .1 .1 .0;
       width = s .pre .1 .1 .1;
     }
 
-few-steps : (s : tie.Start) → s .args .s .steps ≤ 16
-few-steps s = omega (arith, asked s .steps, bounds (old s) (asked s .loadable) .steps)
-
 room : (s : tie.Start) → old s .groups * widthOf (old s) ≤ length (s .args .table .now)
 room s = subst (λ (n : ℕ). n ≤ length (s .args .table .now)) (ap₂ (λ (a b : ℕ). a * b) (s .pre .1 .1 .0) (s .pre .1 .1 .1)) (s .pre .1 .1 .2)
+
+-- where the pair is made
+abbrev pair : tie.After-survey → tie.After-pair-of
+pair c = c .before .before .before .before .before .before .before
+
+abbrev start : tie.After-pair-of → tie.Start
+start c = c .before .before .before .before .before
+
+maps : (c : tie.After-pair-of) → let s = start c in
+    let p = c .pair-of .result in
+    Between (p .plan) (p .old) (p .new) (p .rule) (s .args .groups) (s .args .w) (old s) (new s)
+maps c = let s = start c in between (old s) (s .args .c) _ _ (c .pair-of .result) (c .pair-of .ensures) (asked s)
+
+-- what the survey answers of the two maps
+answers : (c : tie.After-survey) → let s = start (pair c) in Answers (old s) (new s) (s .args .table .now) (c .survey .result)
+answers c = let s = start (pair c) in c .survey .ensures .1 (old s) (new s) (maps (pair c))
+
+-- and there is a mark for each group
+marks : (c : tie.After-survey) → length (c .survey .result .changed) ≡ 65536
+marks c = search (needs, c .survey .ok)
 
 pair-of-requires : tie.Need-pair-of-requires
 pair-of-requires c κs = search needs
 
 survey-requires : tie.Need-survey-requires
 survey-requires c κs =
-    let k = c .before .before .before .before .before .before .before .before .before .before .before .before .before .before .before .before .before .before .before in
-    let s = k .before .before .before .before .before in
-    let A = asked s in
-    let P = k .pair-of .ensures in
-    let b = between (old s) (s .args .c) _ _ _ (k .pair-of .result) P A in (
-      (few-steps s, old-ready (old s) (s .args .c) _ _ _ (k .pair-of .result) P A),
-      (
-        new-ready (old s) (s .args .c) _ _ _ (k .pair-of .result) P A,
-        (
-          betweens.emitted (old s) (put (old s) (s .args .c)) b,
-          betweens.narrow (old s) (put (old s) (s .args .c)) b,
-          betweens.few (old s) (put (old s) (s .args .c)) b,
-          s .pre .1 .1 .2,
-        ),
-      ),
-    )
+    let k = c .before .before .before .before .before .before in
+    let s = start k in
+    (both-run (old s) (s .args .c) _ _ (k .pair-of .result) (k .pair-of .ensures) (asked s), (few (old s) (new s) (maps k), s .pre .1 .1 .2))
 
 refused-requires : tie.Need-refused-requires
 refused-requires c κs = search needs
@@ -73,11 +79,9 @@ same-length-2 c = search needs
 returns : tie.Need-returns
 returns c =
     let v = c .before .before in
-    let k = c .before .before .before .before .before .before .before .before .before .before .before .before .before .before .before .before .before .before .before .before .before .before in
-    let s = c .before .before .before .before .before .before .before .before .before .before .before .before .before .before .before .before .before .before .before .before .before .before .before .before .before .before .before in
-    let b = between (old s) (s .args .c) _ _ _ (k .pair-of .result) (k .pair-of .ensures) (asked s) in
+    let s = start (pair v) in
     λ e q. stale (s .args .map .now) (s .args .table .now) e (s .args .space .now) (s .args .c) q (s .pre .0 .0) (room s) (s .pre .0 .2) (s .pre .1 .0 .0) (v .survey .result)
-    (v .survey .ensures .1 (old s) (put (old s) (s .args .c)) b) (not-true _ (c .before .if1 .taken)) _ (c .refused .ensures)
+    (answers v) (not-true _ (c .before .if1 .taken)) _ (c .refused .ensures)
 
 cast-if2 : tie.Need-cast-if2
 cast-if2 c = search needs
@@ -94,46 +98,38 @@ same-length-4 c = search needs
 returns-2 : tie.Need-returns-2
 returns-2 c =
     let v = c .before .before .before in
-    let k = c .before .before .before .before .before .before .before .before .before .before .before .before .before .before .before .before .before .before .before .before .before .before .before in
-    let s = c .before .before .before .before .before .before .before .before .before .before .before .before .before .before .before .before .before .before .before .before .before .before .before .before .before .before .before .before in
-    let b = between (old s) (s .args .c) _ _ _ (k .pair-of .result) (k .pair-of .ensures) (asked s) in
+    let s = start (pair v) in
     λ e q. short (s .args .map .now) (s .args .table .now) e (s .args .space .now) (s .args .c) q (s .pre .0 .0) (room s) (s .pre .0 .2) (s .pre .1 .0 .0) (v .survey .result)
-    (v .survey .ensures .1 (old s) (put (old s) (s .args .c)) b) (not-false _ (c .before .before .if1 .left)) (c .before .if2 .taken) _ (c .refused2 .ensures)
+    (answers v) (not-false _ (c .before .before .if1 .left)) (c .before .if2 .taken) _ (c .refused2 .ensures)
 
 apply-requires : tie.Need-apply-requires
 apply-requires c κs =
-    let v = c .before .before .before .before .before .before .before .before .before .before .before .before .before .before .before .before .before .before .before .before .before .before .before .before in
-    let k = c .before .before .before .before .before .before .before .before .before .before .before .before .before .before .before .before .before .before .before .before .before .before .before .before .before .before .before .before .before .before .before .before .before .before .before .before .before .before .before .before .before .before .before .before in
-    let s = c .before .before .before .before .before .before .before .before .before .before .before .before .before .before .before .before .before .before .before .before .before .before .before .before .before .before .before .before .before .before .before .before .before .before .before .before .before .before .before .before .before .before .before .before .before .before .before .before .before in
-    let b = between (old s) (s .args .c) _ _ _ (k .pair-of .result) (k .pair-of .ensures) (asked s) in
-    let m′ = put (old s) (s .args .c) in
+    let t = c .before .before .before .before .before .before .before .before .before in
+    let v = t .before .before in
+    let k = pair v in
+    let s = start k in
+    let b = maps k in
+    let r = both-run (old s) (s .args .c) _ _ (k .pair-of .result) (k .pair-of .ensures) (asked s) in
+    let g = few (old s) (new s) b in
     let S = v .survey .ensures .0 in
-    let long : length (v .survey .result .changed) ≡ 65536 = search (needs, v .survey .ok) in
-    let fresh = not-false _ (c .before .before .before .before .before .before .before .before .before .before .before .before .before .before .before .before .before .before .before .before .before .before .before .if1 .left) in (
-      (few-steps s, betweens.selects (old s) m′ b),
+    let fresh : v .survey .result .fresh ≡ true = not-false _ (t .before .if1 .left) in (
+      (r .0, r .1, selects (old s) (new s) b),
       (
-        old-ready (old s) (s .args .c) _ _ _ (k .pair-of .result) (k .pair-of .ensures) (asked s),
+        (old-long (old s) (new s) b, new-long (old s) (new s) b),
         (
-          new-ready (old s) (s .args .c) _ _ _ (k .pair-of .result) (k .pair-of .ensures) (asked s),
+          (g, omega (arith, marks v, g), s .pre .1 .1 .2),
           (
-            (betweens.old-long (old s) m′ b, betweens.new-long (old s) m′ b),
-            (
-              (betweens.emitted (old s) m′ b, betweens.narrow (old s) m′ b, betweens.few (old s) m′ b, omega (arith, long, betweens.few (old s) m′ b)),
-              (
-                (s .pre .1 .1 .2, fresh-rows _ _ _ S fresh),
-                (
-                  subst (λ (n : ℕ). 23 * n ≤ length (s .args .space .now)) (S .moves fresh) (room-for _ _ (c .before .before .before .before .before .before .before .before .before .before .before .before .before .before .before .before .before .before .before .before .before .before .if2 .left)),
-                  S .changed fresh,
-                ),
-              ),
-            ),
+            fresh-rows _ _ _ S fresh,
+            (subst (λ (n : ℕ). 23 * n ≤ length (s .args .space .now)) (S .moves fresh) (room-for _ _ (t .if2 .left)), S .changed fresh),
           ),
         ),
       ),
     )
 
 put-value-requires : tie.Need-put-value-requires
-put-value-requires c κs = let s = c .before .before .before .before .before .before .before .before .before .before .before .before .before .before .before .before .before .before .before .before .before .before .before .before .before .before .before .before .before .before .before .before .before .before .before .before .before .before .before .before .before .before .before .before .before .before .before .before .before .before .before .before .before .before .before in (s .pre .0 .0, s .pre .1 .0 .0, s .pre .1 .0 .1)
+put-value-requires c κs =
+    let s = c .before .before .before .before .before .before .before .before .before .before .before .before .before .before .before .before .before .before .before .before .before .before .before .before .before .before .before .before .before in
+    (s .pre .0 .0, s .pre .1 .0 .0, s .pre .1 .0 .1)
 
 same-length-5 : tie.Need-same-length-5
 same-length-5 c = search needs
@@ -147,14 +143,12 @@ same-length-7 c = search needs
 returns-3 : tie.Need-returns-3
 returns-3 c =
     let p = c .before .before .before .before .before .before .before .before in
-    let v = c .before .before .before .before .before .before .before .before .before .before .before .before .before .before .before .before .before .before .before .before .before .before .before .before .before .before .before .before .before .before .before .before .before in
-    let k = c .before .before .before .before .before .before .before .before .before .before .before .before .before .before .before .before .before .before .before .before .before .before .before .before .before .before .before .before .before .before .before .before .before .before .before .before .before .before .before .before .before .before .before .before .before .before .before .before .before .before .before .before .before in
-    let s = c .before .before .before .before .before .before .before .before .before .before .before .before .before .before .before .before .before .before .before .before .before .before .before .before .before .before .before .before .before .before .before .before .before .before .before .before .before .before .before .before .before .before .before .before .before .before .before .before .before .before .before .before .before .before .before .before .before .before in
-    let m′ = put (old s) (s .args .c) in
-    let b = between (old s) (s .args .c) _ _ _ (k .pair-of .result) (k .pair-of .ensures) (asked s) in
-    let w = p .apply .ensures (old s) m′ b in
+    let t = p .before .before .before .before .before .before .before .before .before .before in
+    let v = t .before .before in
+    let s = start (pair v) in
+    let w = p .apply .ensures (old s) (new s) (maps (pair v)) in
     λ e q. done (s .args .map .now) (s .args .table .now) e (s .args .space .now) (s .args .c) q (s .pre .0 .0) (room s) (s .pre .0 .2) (s .pre .1 .0 .0) (v .survey .result)
-    (v .survey .ensures .1 (old s) m′ b) (not-false _ (c .before .before .before .before .before .before .before .before .before .before .before .before .before .before .before .before .before .before .before .before .before .before .before .before .before .before .before .before .before .before .before .before .if1 .left)) (c .before .before .before .before .before .before .before .before .before .before .before .before .before .before .before .before .before .before .before .before .before .before .before .before .before .before .before .before .before .before .before .if2 .left) _ _ _ (c .before .before .put-value .ensures) (w .0) (w .1)
+    (answers v) (not-false _ (t .before .if1 .left)) (t .if2 .left) _ _ _ (c .before .before .put-value .ensures) (w .0) (w .1)
 
 pub edit-device-spec : {M : Type 1} → statement M
 edit-device-spec =

@@ -1,9 +1,8 @@
 -- `engine::write::write` meets its contract: 14, then 16, then the copy. Assumes nothing.
-use mathlib.Core.Path.{_≡_, sym, ap, _∙_}
+use mathlib.Core.Path.{sym, ap, _∙_}
 use mathlib.Core.List.{List}
 use Prim.Native.Nat.{ℕ}
 use lib.ListN.{length}
-use Rattle.definitions.specs.Calls.{WriteAnswer}
 use Rattle.engine.specs.Calls.{write-14, write-16, write-0}
 use borrow.Author.Needs.{needs}
 use Rattle.engine.proofs.write.write.Statement.{statement}

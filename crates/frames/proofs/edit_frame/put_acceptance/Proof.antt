@@ -1,4 +1,4 @@
--- `frames::edit_frame::put_acceptance` meets its contract: the text with the digits of device k's acceptance replaced is that of the edited map.
+-- `frames::edit_frame::put_acceptance` meets its contract: the text with device k's acceptance replaced is that of the edited map.
 -- Assumes nothing.
 use Prim.Native.Nat.{_+_, _≤_}
 use native.Mathlib.Omega.{arith}

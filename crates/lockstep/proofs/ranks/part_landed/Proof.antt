@@ -10,13 +10,13 @@ use Rattle.lockstep.proofs.ranks.part_landed.Tie as tie
 
 -- where the function starts, from where the winner is known
 abbrev start : tie.After-drawn → tie.Start
-start c = c .before .before .before .before .before .before .before
+start c = c .before .before .before .before
 
 abbrev winner : tie.After-drawn → ℕ
 winner c = c .drawn .given .0 .0
 
 ranged : (c : tie.After-drawn) → ItemRange (winner c)
-ranged c = start c .pre .1 .2 .1 (winner c) (c .drawn .given .1)
+ranged c = start c .pre .2 .1 (winner c) (c .drawn .given .1)
 
 enum-known-drawn : tie.Need-enum-known-drawn
 enum-known-drawn c = search needs
@@ -29,15 +29,15 @@ failed-to-requires c κs = search needs
 
 returns : tie.Need-returns
 returns c =
-    let s = c .before .before .before .before .before .before .before .before in
+    let s = c .before .before .before .before .before in
     let a = s .args in
     rw (c .failed-to .ensures) (
-      follows-none (a .types .now) _ _ _ _ _ _ _ (a .start) (a .s) (a .l) (c .before .enum-told .given .1),
-      joined-bounds (a .types .now) (a .t) _ (failed-bounds (a .types .now) (a .t) (a .start) (a .s) _ (s .pre .1 .0) refl),
+      follows-none (a .plan .now) _ _ _ (a .search) _ _ (a .s) (a .l) (c .before .enum-told .given .1),
+      joined-bounds (a .plan .now) (a .search .wanted .t) _ (failed-bounds (a .plan .now) (a .search .wanted .t) (a .search .start) (a .s) _ (s .pre .0) refl),
     )
 
 type-of-requires : tie.Need-type-of-requires
-type-of-requires c κs = (start (c .before) .pre .0 .0, ranged (c .before))
+type-of-requires c κs = ranged (c .before)
 
 failed-to-requires-2 : tie.Need-failed-to-requires-2
 failed-to-requires-2 c κs = search needs
@@ -48,15 +48,15 @@ returns-2 c =
     let s = start w in
     let a = s .args in
     rw (c .failed-to2 .ensures) (
-      follows-other (a .types .now) _ _ _ _ _ _ _ (a .start) (a .s) (a .l) (winner w) (w .drawn .given .1) (rw (c .before .before .type-of .ensures) at (c .before .if1 .taken)),
-      joined-bounds (a .types .now) (a .t) _ (failed-bounds (a .types .now) (a .t) (a .start) (a .s) _ (s .pre .1 .0) refl),
+      follows-other (a .plan .now) _ _ _ (a .search) _ _ (a .s) (a .l) (winner w) (w .drawn .given .1) (rw (c .before .before .type-of .ensures) at (c .before .if1 .taken)),
+      joined-bounds (a .plan .now) (a .search .wanted .t) _ (failed-bounds (a .plan .now) (a .search .wanted .t) (a .search .start) (a .s) _ (s .pre .0) refl),
     )
 
 verdict-requires : tie.Need-verdict-requires
-verdict-requires c κs = let w = c .before .before .before in (start w .pre .0 .1, ranged w)
+verdict-requires c κs = ranged (c .before .before .before)
 
 verdict-requires-2 : tie.Need-verdict-requires-2
-verdict-requires-2 c κs = let w = c .before .before .before .before in (start w .pre .0 .2, ranged w)
+verdict-requires-2 c κs = ranged (c .before .before .before .before)
 
 part-verdicts-requires : tie.Need-part-verdicts-requires
 part-verdicts-requires c κs = search needs
@@ -67,10 +67,10 @@ returns-3 c =
     let w = v .before .before .before .before in
     let s = start w in
     let a = s .args in
-    let typed : typeIn (a .types .now) (winner w) ≡ a .t = sym (v .before .before .type-of .ensures) ∙ v .before .if1 .left in
+    let typed : typeIn (a .plan .now) (winner w) ≡ a .search .wanted .t = sym (v .before .before .type-of .ensures) ∙ v .before .if1 .left in
     rw (c .part-verdicts .ensures) (
-      follows-tested (a .types .now) _ _ _ _ _ _ _ (a .start) (a .s) (a .l) (winner w) (w .drawn .given .1) typed _ _ (v .verdict .ensures) (c .before .verdict2 .ensures),
-      tested-bounds (a .types .now) (a .t) (a .start) (a .s) _ _ _ _ (s .pre .1 .0) (s .pre .1 .2 .0) (ranged w, typed),
+      follows-tested (a .plan .now) _ _ _ (a .search) _ _ (a .s) (a .l) (winner w) (w .drawn .given .1) typed _ _ (v .verdict .ensures) (c .before .verdict2 .ensures),
+      tested-bounds (a .plan .now) (a .search .wanted .t) (a .search .start) (a .s) _ _ _ _ (s .pre .0) (s .pre .2 .0) (ranged w, typed),
     )
 
 pub part-landed-spec : {M : Type 1} → statement M

@@ -8,10 +8,10 @@ use Rattle.definitions.specs.declared.Parting.{Parting}
 use Rattle.definitions.specs.declared.State.{State}
 use Rattle.definitions.specs.declared.Turn.the-variants.{Fail}
 use Rattle.definitions.specs.View.{View}
-use Rattle.definitions.specs.Walk.{turnOf, rankOf}
 use Rattle.definitions.specs.Edit.{parting}
-use Rattle.hierarchy.specs.Arrays.{viewFrom}
+use Rattle.hierarchy.specs.Arrays.{viewIn}
 use Rattle.laws.specs.Fuel.{turn-fails}
+use Rattle.walk.specs.Searches.{turnAt, rankAt}
 use Rattle.lockstep.specs.declared.Round.{Round}
 use Rattle.lockstep.specs.declared.Round.the-variants.{Joined}
 use Rattle.lockstep.specs.Lockstep.{Turns, partFrom, rank-parts, rank-filled, rank-next, rank-ended, rank-whole}
@@ -19,40 +19,40 @@ use Rattle.lockstep.proofs.ranks.part_rank.Statement.{statement}
 use Rattle.lockstep.proofs.ranks.part_rank.Tie as tie
 
 abbrev Inv-loop : tie.InvT-loop
-Inv-loop first count types items weights weights2 acceptance acceptance2 seed x mode n t entries entries2 start r f0 s₀ s =
-    let v = viewFrom seed first count types items weights acceptance in
-    let v′ = viewFrom seed first count types items weights2 acceptance2 in
+Inv-loop plan old new x k olds news f0 s₀ s =
+    let v = viewIn plan old in
+    let v′ = viewIn plan new in
     (s .at < 256) × (s .fr ≤ 50) × (s .f ≤ 1000 + s .fr)
-    × (partFrom v v′ x mode n t entries entries2 start r (50 - s .fr) s ≡ parting (rankOf v x mode n t entries start r f0 .events) (rankOf v′ x mode n t entries2 start r f0 .events))
+    × (partFrom v v′ x k olds news (50 - s .fr) s ≡ parting (rankAt v x k olds f0 .events) (rankAt v′ x k news f0 .events))
 
 abbrev μ-loop : tie.MeasureT-loop
-μ-loop first count types items weights weights2 acceptance acceptance2 seed x mode n t entries entries2 start r f0 s₀ s = 50 - s .fr
+μ-loop plan old new x k olds news f0 s₀ s = 50 - s .fr
 
 -- where the loop's turn begins, and where the function starts
 abbrev at : tie.After-part-turn Inv-loop μ-loop → tie.At-loop Inv-loop μ-loop
 at c = c .before .before .before
 
 abbrev start : tie.At-loop Inv-loop μ-loop → tie.Start Inv-loop μ-loop
-start c = c .before .before .before .before .before .before .before .before .before .before .before
+start c = c .before .before .before
 
 -- what the two runs read, and where the two ranks part
 abbrev old : tie.Start Inv-loop μ-loop → View
-old s = let a = s .args in viewFrom (a .seed) (a .first .now) (a .count .now) (a .types .now) (a .items .now) (a .weights .now) (a .acceptance .now)
+old s = let a = s .args in viewIn (a .plan .now) (a .old .now)
 
 abbrev new : tie.Start Inv-loop μ-loop → View
-new s = let a = s .args in viewFrom (a .seed) (a .first .now) (a .count .now) (a .types .now) (a .items .now) (a .weights2 .now) (a .acceptance2 .now)
+new s = let a = s .args in viewIn (a .plan .now) (a .new .now)
 
 abbrev whole : tie.Start Inv-loop μ-loop → Parting
 whole s =
     let a = s .args in
-    parting (rankOf (old s) (a .x) (a .mode) (a .n) (a .t) (a .entries .now) (a .start) (a .r) (a .f0) .events) (rankOf (new s) (a .x) (a .mode) (a .n) (a .t) (a .entries2 .now) (a .start) (a .r) (a .f0) .events)
+    parting (rankAt (old s) (a .x) (a .search) (a .olds .now) (a .f0) .events) (rankAt (new s) (a .x) (a .search) (a .news .now) (a .f0) .events)
 
 -- what a round says of the two turns from the loop's state
 abbrev Turned : tie.At-loop Inv-loop μ-loop → Round → Type 0
 Turned l k =
     let s = start l in
     let a = s .args in
-    Turns k (turnOf (old s) (a .x) (a .mode) (a .n) (a .t) (a .entries .now) (a .start) (a .r) (l .loop .s)) (turnOf (new s) (a .x) (a .mode) (a .n) (a .t) (a .entries2 .now) (a .start) (a .r) (l .loop .s))
+    Turns k (turnAt (old s) (a .x) (a .search) (a .olds .now) (l .loop .s)) (turnAt (new s) (a .x) (a .search) (a .news .now) (l .loop .s))
 
 turned : (c : tie.After-part-turn Inv-loop μ-loop) → Turned (at c) (c .part-turn .result)
 turned c = c .part-turn .ensures .0
@@ -73,19 +73,16 @@ failed c = subst (Turned (at (turn c))) (joined c) (turned (turn c))
 -- with one failure more
 more : (c : tie.After-u Inv-loop μ-loop)
     → let s = at (turn c) .loop .s in (next c .fr ≡ s .fr + 1) × (next c .f ≡ s .f + 1)
-more c =
-    let s = start (at (turn c)) in
-    let a = s .args in
-    turn-fails (old s) (a .x) (a .mode) (a .n) (a .t) (a .entries .now) (a .start) (a .r) _ _ (failed c .1)
+more c = turn-fails (old (start (at (turn c)))) _ _ _ _ _ _ _ _ _ (failed c .1)
 
 loop-holds : tie.Need-loop-holds Inv-loop μ-loop
-loop-holds c = (search needs, search needs, search needs, rank-whole _ _ _ _ _ _ _ _ _ _ _)
+loop-holds c = (search needs, search needs, search needs, rank-whole _ _ _ _ _ _ _)
 
 part-turn-requires : tie.Need-part-turn-requires Inv-loop μ-loop
 part-turn-requires c κs =
     let l = c .before .before in
     let s = start l in
-    (s .pre .0, (s .pre .1 .0, (s .pre .1 .1 .0, (s .pre .1 .1 .1 .0, s .pre .1 .1 .1 .1, s .pre .1 .1 .1 .2, l .loop .inv .0, (c .if1 .taken, l .loop .inv .2)))))
+    (s .pre .0, (s .pre .1 .0, l .loop .inv .0, (c .if1 .taken, l .loop .inv .2)))
 
 enum-known-k : tie.Need-enum-known-k Inv-loop μ-loop
 enum-known-k c = search needs
@@ -96,7 +93,7 @@ returns c =
     let l = at k in
     let s = start l in
     let a = s .args in
-    rank-parts (old s) (new s) (a .x) (a .mode) (a .n) (a .t) (a .entries .now) (a .entries2 .now) (a .start) (a .r) (l .loop .s) (whole s) (k .before .if1 .taken) (l .loop .inv .3)
+    rank-parts (old s) (new s) (a .x) (a .search) (a .olds .now) (a .news .now) (l .loop .s) (whole s) (k .before .if1 .taken) (l .loop .inv .3)
     _ (subst (Turned l) (c .before .k .given .1) (turned k))
 
 enum-known-k-2 : tie.Need-enum-known-k-2 Inv-loop μ-loop
@@ -112,7 +109,7 @@ returns-2 c =
     let l = at k in
     let s = start l in
     let a = s .args in
-    rank-filled (old s) (new s) (a .x) (a .mode) (a .n) (a .t) (a .entries .now) (a .entries2 .now) (a .start) (a .r) (l .loop .s) (whole s) (k .before .if1 .taken) (l .loop .inv .3)
+    rank-filled (old s) (new s) (a .x) (a .search) (a .olds .now) (a .news .now) (l .loop .s) (whole s) (k .before .if1 .taken) (l .loop .inv .3)
     (c .enum-told .given .0 .0) (subst (Turned l) (j .k2 .given .1 ∙ ap Joined (c .enum-told .given .1)) (turned k))
 
 enum-known-u : tie.Need-enum-known-u Inv-loop μ-loop
@@ -131,7 +128,7 @@ loop-again c =
       k .part-turn .ensures .1 (Fail (next u)) (joined u) .1 (next u) refl,
       omega (arith, more u .0),
       omega (arith, more u .0, more u .1),
-      rank-next (old s) (new s) (a .x) (a .mode) (a .n) (a .t) (a .entries .now) (a .entries2 .now) (a .start) (a .r) (l .loop .s) (whole s) (k .before .if1 .taken) (l .loop .inv .3)
+      rank-next (old s) (new s) (a .x) (a .search) (a .olds .now) (a .news .now) (l .loop .s) (whole s) (k .before .if1 .taken) (l .loop .inv .3)
           _ (failed u),
     )
 
@@ -140,7 +137,7 @@ returns-3 c =
     let l = c .before .before in
     let s = start l in
     let a = s .args in
-    rank-ended (old s) (new s) (a .x) (a .mode) (a .n) (a .t) (a .entries .now) (a .entries2 .now) (a .start) (a .r) (l .loop .s) (whole s) (c .if1 .left) (l .loop .inv .3)
+    rank-ended (old s) (new s) (a .x) (a .search) (a .olds .now) (a .news .now) (l .loop .s) (whole s) (c .if1 .left) (l .loop .inv .3)
 
 pub part-rank-spec : {M : Type 1} → statement M
 part-rank-spec =

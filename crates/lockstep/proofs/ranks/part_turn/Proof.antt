@@ -6,7 +6,7 @@ use Rattle.lockstep.proofs.ranks.part_turn.Tie as tie
 
 -- where the function starts, from where the descents met
 abbrev start : tie.After-meet → tie.Start
-start c = c .before .before .before .before .before .before .before .before .before .before .before .before
+start c = c .before .before .before .before
 
 try-number-requires : tie.Need-try-number-requires
 try-number-requires c κs = search needs
@@ -24,21 +24,21 @@ part-landed-requires : tie.Need-part-landed-requires
 part-landed-requires c κs =
     let m = c .before .before .before in
     let s = start m in
-    ((s .pre .0 .typed, s .pre .1 .1 .0 .0, s .pre .1 .1 .0 .1), (s .pre .1 .1 .1 .0, s .pre .1 .1 .1 .4, m .meet .ensures .1 _ (c .before .m2 .given .1)))
+    (s .pre .1 .0 .0, s .pre .1 .2, m .meet .ensures .1 _ (c .before .m2 .given .1))
 
 returns : tie.Need-returns
 returns c =
     let m = c .before .before .before in
     let a = start m .args in (
-      turns-apart (a .seed) (a .first .now) (a .count .now) (a .types .now) (a .items .now) (a .weights .now) (a .weights2 .now) (a .acceptance .now) (a .acceptance2 .now) (a .x) (a .mode) (a .n) (a .t) (a .entries .now) (a .entries2 .now) (a .start) (a .r) (a .s) _ _ (m .meet .ensures .0) (m .before .try-number .ensures) _ (c .before .m .given .1),
-      left-bounds (a .types .now) (a .t) _,
+      turns-apart (a .plan .now) (a .old .now) (a .new .now) (a .x) (a .search) (a .olds .now) (a .news .now) (a .s) _ _ (m .meet .ensures .0) (m .before .try-number .ensures) _ (c .before .m .given .1),
+      left-bounds (a .plan .now) (a .search .wanted .t) _,
     )
 
 returns-2 : tie.Need-returns-2
 returns-2 c =
     let m = c .before .before .before .before in
     let a = start m .args in (
-      turns-landed (a .seed) (a .first .now) (a .count .now) (a .types .now) (a .items .now) (a .weights .now) (a .weights2 .now) (a .acceptance .now) (a .acceptance2 .now) (a .x) (a .mode) (a .n) (a .t) (a .entries .now) (a .entries2 .now) (a .start) (a .r) (a .s) _ _ (m .meet .ensures .0) (m .before .try-number .ensures) _ _ (c .before .before .m2 .given .1) (c .part-landed .ensures .0),
+      turns-landed (a .plan .now) (a .old .now) (a .new .now) (a .x) (a .search) (a .olds .now) (a .news .now) (a .s) _ _ (m .meet .ensures .0) (m .before .try-number .ensures) _ _ (c .before .before .m2 .given .1) (c .part-landed .ensures .0),
       c .part-landed .ensures .1,
     )
 

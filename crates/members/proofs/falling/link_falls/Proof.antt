@@ -27,19 +27,24 @@ there c =
 link-requires : tie.Need-link-requires
 link-requires c κs = search needs
 
+numbered-requires : tie.Need-numbered-requires
+numbered-requires c κs = search needs
+
 level-requires : tie.Need-level-requires
-level-requires c κs = (c .before .before .before .pre .1 .0 .size, here c .child)
+level-requires c κs = let l = c .before in (l .before .before .before .pre .1 .0 .size, rw (c .numbered .ensures) (here l .child))
 
 bucket-level-requires : tie.Need-bucket-level-requires
-bucket-level-requires c κs = (c .before .before .before .before .pre .1 .0 .size, here (c .before) .bucket)
+bucket-level-requires c κs = let l = c .before .before in (l .before .before .before .pre .1 .0 .size, here l .bucket)
 
 returns : tie.Need-returns
 returns c =
-    let l = c .before .before in
+    let v = c .before in
+    let l = v .before .before in
     let s = l .before .before .before in
     let m = mapOf (s .args .t .now) in
-    link-falls m (s .args .levels .now) (s .pre .1 .0) (l .link .result) (here l) (c .bucket-level .result) (c .bucket-level .ensures) (c .before .level .result) (there l) (c .before .level .ensures)
+    link-falls m (s .args .levels .now) (s .pre .1 .0) (l .link .result) (here l) (c .bucket-level .result) (c .bucket-level .ensures) (v .level .result) (there l)
+    (rw (v .before .numbered .ensures) at (v .level .ensures))
     ∙ ap (linkFalls m) (l .link .ensures)
 
 pub link-falls-spec : {M : Type 1} → statement M
-link-falls-spec = tie.close (tie.spec link-requires level-requires bucket-level-requires returns)
+link-falls-spec = tie.close (tie.spec link-requires numbered-requires level-requires bucket-level-requires returns)

@@ -4,14 +4,16 @@ use Rattle.members.specs.Levels.{bucket-item}
 use Rattle.members.proofs.levels.bucket_level.Statement.{statement}
 use Rattle.members.proofs.levels.bucket_level.Tie as tie
 
-add-level : tie.Need-add-level
-add-level c = search needs
+bucket-requires : tie.Need-bucket-requires
+bucket-requires c κs = search needs
 
 level-requires : tie.Need-level-requires
-level-requires c κs = (c .before .pre .0, bucket-item (c .before .args .b) (c .before .pre .1))
+level-requires c κs =
+    let s = c .before .before in
+    (s .pre .0, rw (c .bucket .ensures) (bucket-item (s .args .b) (s .pre .1)))
 
 returns : tie.Need-returns
-returns c = search needs
+returns c = rw (c .before .bucket .ensures) at (c .level .ensures)
 
 pub bucket-level-spec : {M : Type 1} → statement M
-bucket-level-spec = tie.close (tie.spec add-level level-requires returns)
+bucket-level-spec = tie.close (tie.spec bucket-requires level-requires returns)

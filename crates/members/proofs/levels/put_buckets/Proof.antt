@@ -1,14 +1,14 @@
 -- `members::levels::put_buckets` meets its contract: after k turns the table is that of the first k buckets, and each bucket's number is
 -- that of a slot behind the devices'. Assumes nothing.
 use mathlib.Core.Path.{_≡_, ap, _∙_}
-use Prim.Native.Nat.{_≤_, _<_, _-_}
+use Prim.Native.Nat.{_+_, _≤_, _<_, _-_}
 use native.Mathlib.Omega.{arith}
 use lib.ListN.{length}
 use borrow.Author.Needs.{needs}
 use Rattle.definitions.specs.Map.{mapOf}
 use Rattle.laws.specs.Loadable.{BucketRanged}
 use Rattle.text.specs.Records.{shape-buckets}
-use Rattle.members.specs.Levels.{bucket-in, bucketsTo, buckets-none, buckets-more}
+use Rattle.members.specs.Levels.{slotOf, slot-number, bucket-item, bucket-in, bucketsTo, buckets-none, buckets-more}
 use Rattle.members.proofs.levels.put_buckets.Statement.{statement}
 use Rattle.members.proofs.levels.put_buckets.Tie as tie
 
@@ -38,20 +38,24 @@ loop-holds c = (search needs, buckets-none (mapOf (c .before .args .t .now)) (c 
 bucket-requires : tie.Need-bucket-requires Inv-loop μ-loop
 bucket-requires c κs = let s = c .before .before .before in (s .pre .0, s .pre .1, at c)
 
-add-i : tie.Need-add-i Inv-loop μ-loop
-add-i c = omega (arith, here (c .before) .number)
+bucket-requires-2 : tie.Need-bucket-requires-2 Inv-loop μ-loop
+bucket-requires-2 c κs = omega (arith, here c .number)
 
-cast-i : tie.Need-cast-i Inv-loop μ-loop
-cast-i c = omega (arith, here (c .before) .number)
+slot-requires : tie.Need-slot-requires Inv-loop μ-loop
+slot-requires c κs = let b = c .before in rw (c .bucket2 .ensures) (bucket-item (b .bucket .result .number) (here b .number))
+
+-- a bucket's slot is its number, behind the devices'
+slot : (c : tie.After-slot Inv-loop μ-loop) → c .slot .result ≡ c .before .before .bucket .result .number + 1024
+slot c = c .slot .ensures .0 ∙ ap slotOf (c .before .bucket2 .ensures) ∙ slot-number (c .before .before .bucket .result .number)
 
 add-table : tie.Need-add-table Inv-loop μ-loop
-add-table c = omega (arith, here (c .before .before) .most)
+add-table c = omega (arith, here (c .before .before .before) .most)
 
 mul-table : tie.Need-mul-table Inv-loop μ-loop
-mul-table c = omega (arith, here (c .before .before) .number)
+mul-table c = search needs
 
 array-write-table : tie.Need-array-write-table Inv-loop μ-loop
-array-write-table c = omega (arith, here (c .before .before) .number)
+array-write-table c = search needs
 
 add-k : tie.Need-add-k Inv-loop μ-loop
 add-k c = search needs
@@ -61,11 +65,12 @@ loop-less c = search needs
 
 loop-again : tie.Need-loop-again Inv-loop μ-loop
 loop-again c =
-    let b = c .before .before in
+    let b = c .before .before .before in
     let l = b .before .before in
     let a = l .before .before .args in (
       search needs,
-      buckets-more (mapOf (a .t .now)) (a .devices) (l .loop .k) (l .loop .table) (b .bucket .result) (l .loop .inv .1) (b .bucket .ensures),
+      rw (slot (c .before))
+          (buckets-more (mapOf (a .t .now)) (a .devices) (l .loop .k) (l .loop .table) (b .bucket .result) (l .loop .inv .1) (b .bucket .ensures)),
     )
 
 returns : tie.Need-returns Inv-loop μ-loop
@@ -81,8 +86,8 @@ put-buckets-spec =
     μ-loop
     loop-holds
     bucket-requires
-    add-i
-    cast-i
+    bucket-requires-2
+    slot-requires
     add-table
     mul-table
     array-write-table

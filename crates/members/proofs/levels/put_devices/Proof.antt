@@ -1,6 +1,7 @@
 -- `members::levels::put_devices` meets its contract: after k turns the table is that of the first k devices, and each device's number is
 -- a slot. Assumes nothing.
-use mathlib.Core.Path.{_≡_, ap, _∙_}
+use mathlib.Core.Path.{_≡_, sym, ap, _∙_}
+use mathlib.Core.Logic.{inl}
 use Prim.Native.Nat.{_≤_, _<_, _-_}
 use native.Mathlib.Omega.{arith}
 use lib.ListN.{length}
@@ -9,7 +10,7 @@ use Rattle.definitions.specs.Map.{mapOf}
 use Rattle.laws.specs.Loadable.{DeviceRanged}
 use Rattle.text.specs.Records.{shape-devices}
 use Rattle.members.specs.Tables.{blank}
-use Rattle.members.specs.Levels.{device-in, devicesTo, devices-none, devices-more}
+use Rattle.members.specs.Levels.{slotOf, slot-device, device-in, devicesTo, devices-none, devices-more}
 use Rattle.members.proofs.levels.put_devices.Statement.{statement}
 use Rattle.members.proofs.levels.put_devices.Tie as tie
 
@@ -40,14 +41,23 @@ loop-holds c = (search needs, devices-none (mapOf (c .before .args .t .now)))
 device-requires : tie.Need-device-requires Inv-loop μ-loop
 device-requires c κs = (c .before .before .before .pre .0, at c)
 
-cast-i : tie.Need-cast-i Inv-loop μ-loop
-cast-i c = omega (arith, here (c .before) .number)
+device-requires-2 : tie.Need-device-requires-2 Inv-loop μ-loop
+device-requires-2 c κs = omega (arith, here c .number)
+
+slot-requires : tie.Need-slot-requires Inv-loop μ-loop
+slot-requires c κs = inl (omega (arith, c .device2 .ensures, here (c .before) .number))
+
+-- a device's slot is its number
+slot : (c : tie.After-slot Inv-loop μ-loop) → c .slot .result ≡ c .before .before .device .result .number
+slot c =
+    let d = c .before .before in
+    c .slot .ensures .0 ∙ ap slotOf (c .before .device2 .ensures) ∙ sym (slot-device (d .device .result .number) (omega (arith, here d .number)))
 
 mul-table : tie.Need-mul-table Inv-loop μ-loop
-mul-table c = omega (arith, here (c .before) .number)
+mul-table c = search needs
 
 array-write-table : tie.Need-array-write-table Inv-loop μ-loop
-array-write-table c = omega (arith, here (c .before) .number)
+array-write-table c = search needs
 
 add-k : tie.Need-add-k Inv-loop μ-loop
 add-k c = search needs
@@ -57,9 +67,11 @@ loop-less c = search needs
 
 loop-again : tie.Need-loop-again Inv-loop μ-loop
 loop-again c =
-    let l = c .before .before .before in (
+    let d = c .before .before in
+    let l = d .before .before in (
       search needs,
-      devices-more (mapOf (l .before .before .args .t .now)) (l .loop .k) (l .loop .table) (c .before .device .result) (l .loop .inv .1) (c .before .device .ensures),
+      rw (slot c)
+          (devices-more (mapOf (l .before .before .args .t .now)) (l .loop .k) (l .loop .table) (d .device .result) (l .loop .inv .1) (d .device .ensures)),
     )
 
 returns : tie.Need-returns Inv-loop μ-loop
@@ -75,7 +87,8 @@ put-devices-spec =
     μ-loop
     loop-holds
     device-requires
-    cast-i
+    device-requires-2
+    slot-requires
     mul-table
     array-write-table
     add-k

@@ -7,7 +7,7 @@ use borrow.Author.Needs.{needs}
 use Rattle.definitions.specs.Map.{mapOf}
 use Rattle.laws.specs.Loadable.{LinkRanged}
 use Rattle.text.specs.Records.{shape-links}
-use Rattle.members.specs.Levels.{link-in}
+use Rattle.members.specs.Levels.{slotOf, link-in}
 use Rattle.members.specs.Once.{unseen, fresh, fresh-next, fresh-stop, fresh-end, fresh-once}
 use Rattle.members.proofs.once.once.Statement.{statement}
 use Rattle.members.proofs.once.once.Tie as tie
@@ -39,8 +39,15 @@ loop-holds c = (search needs, refl)
 link-requires : tie.Need-link-requires Inv-loop μ-loop
 link-requires c κs = let s = c .before .before .before in (s .pre .0, s .pre .1, at c)
 
+numbered-requires : tie.Need-numbered-requires Inv-loop μ-loop
+numbered-requires c κs = search needs
+
 slot-requires : tie.Need-slot-requires Inv-loop μ-loop
-slot-requires c κs = here c .child
+slot-requires c κs = rw (c .numbered .ensures) (here (c .before) .child)
+
+-- the slot is the child's
+slot : (c : tie.After-slot Inv-loop μ-loop) → c .slot .result ≡ slotOf (c .before .before .link .result .child)
+slot c = rw (c .before .numbered .ensures) at (c .slot .ensures .0)
 
 array-read-if1 : tie.Need-array-read-if1 Inv-loop μ-loop
 array-read-if1 c = search needs
@@ -48,10 +55,11 @@ array-read-if1 c = search needs
 returns : tie.Need-returns Inv-loop μ-loop
 returns c =
     let e = c .before in
-    let l = e .before .before .before in
+    let n = e .before .before in
+    let l = n .before .before in
     let s = l .before .before in
     let m = mapOf (s .args .t .now) in
-    fresh-stop (l .loop .seen) (m .links) (l .loop .k) (at (e .before .before)) (e .before .link .result) (e .before .link .ensures) (e .slot .result) (e .slot .ensures .0) (c .if1 .taken)
+    fresh-stop (l .loop .seen) (m .links) (l .loop .k) (at (n .before)) (n .link .result) (n .link .ensures) (e .slot .result) (slot e) (c .if1 .taken)
     ∙ l .loop .inv .1
     ∙ fresh-once m (s .pre .2)
 
@@ -67,10 +75,11 @@ loop-less c = search needs
 loop-again : tie.Need-loop-again Inv-loop μ-loop
 loop-again c =
     let e = c .before in
-    let l = e .before .before .before in
+    let n = e .before .before in
+    let l = n .before .before in
     let m = mapOf (l .before .before .args .t .now) in (
       search needs,
-      fresh-next (l .loop .seen) (m .links) (l .loop .k) (at (e .before .before)) (e .before .link .result) (e .before .link .ensures) (e .slot .result) (e .slot .ensures .0) (c .if1 .left) ∙ l .loop .inv .1,
+      fresh-next (l .loop .seen) (m .links) (l .loop .k) (at (n .before)) (n .link .result) (n .link .ensures) (e .slot .result) (slot e) (c .if1 .left) ∙ l .loop .inv .1,
     )
 
 returns-2 : tie.Need-returns-2 Inv-loop μ-loop
@@ -88,6 +97,7 @@ once-spec =
     μ-loop
     loop-holds
     link-requires
+    numbered-requires
     slot-requires
     array-read-if1
     returns

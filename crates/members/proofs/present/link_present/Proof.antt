@@ -28,18 +28,25 @@ returns c =
     link-absent m (s .args .levels .now) (s .pre .1 .0) (l .link .result) (here l) (c .before .bucket-level .result) (c .before .bucket-level .ensures) (c .if1 .taken)
     ∙ ap (linkPresent m) (l .link .ensures)
 
+numbered-requires : tie.Need-numbered-requires
+numbered-requires c κs = search needs
+
 level-requires : tie.Need-level-requires
-level-requires c κs = let l = c .before .before in (l .before .before .before .pre .1 .0 .size, here l .child)
+level-requires c κs =
+    let l = c .before .before .before in
+    (l .before .before .before .pre .1 .0 .size, rw (c .numbered .ensures) (here l .child))
 
 returns-2 : tie.Need-returns-2
 returns-2 c =
-    let b = c .before .before in
+    let e = c .before .before in
+    let b = e .before in
     let l = b .before in
     let s = l .before .before .before in
     let m = mapOf (s .args .t .now) in
-    link-there m (s .args .levels .now) (s .pre .1 .0) (l .link .result) (here l) (b .bucket-level .result) (b .bucket-level .ensures) (c .level .result) (c .before .if1 .left) (c .level .ensures)
+    link-there m (s .args .levels .now) (s .pre .1 .0) (l .link .result) (here l) (b .bucket-level .result) (b .bucket-level .ensures) (c .level .result) (e .if1 .left)
+    (rw (c .before .numbered .ensures) at (c .level .ensures))
     ∙ ap (linkPresent m) (l .link .ensures)
 
 pub link-present-spec : {M : Type 1} → statement M
 link-present-spec =
-    tie.close (tie.spec link-requires bucket-level-requires returns level-requires returns-2)
+    tie.close (tie.spec link-requires bucket-level-requires returns numbered-requires level-requires returns-2)

@@ -2,7 +2,7 @@
 use native.Mathlib.Omega.{arith}
 use borrow.Author.Needs.{needs}
 use Rattle.definitions.specs.View.{View}
-use Rattle.hierarchy.specs.Arrays.{viewFrom}
+use Rattle.hierarchy.specs.Arrays.{viewIn}
 use Rattle.blocks.specs.Products.{productAfter, addedBy}
 use Rattle.placement.specs.Chosen.{bareIn}
 use Rattle.placement.specs.Progress.{run-select}
@@ -13,21 +13,21 @@ use Rattle.placement.proofs.rule.selected.Tie as tie
 abbrev view : tie.Start → View
 view s =
     let a = s .args in
-    viewFrom (a .seed) (a .first .now) (a .count .now) (a .types .now) (a .items .now) (a .weights .now) (a .acceptance .now)
+    viewIn (a .plan .now) (a .values .now)
 
 select-requires : tie.Need-select-requires
 select-requires c κs = search needs
 
-add-t17 : tie.Need-add-t17
-add-t17 c = search needs
+add-t12 : tie.Need-add-t12
+add-t12 c = search needs
 
 returns : tie.Need-returns
 unfolding productAfter addedBy
 returns c =
-    let s = c .before .before .before .before .before .before .before .before .before .before .before .before in
+    let s = c .before .before .before .before .before .before in
     let a = s .args in
     let k = c .before .before .before .select in
-    (run-select (view s) (a .x) (a .p) (a .mode) (a .n) (a .t) (bareIn (k .result)) (k .ensures .0 .0), (omega (arith, k .ensures .0 .1, s .pre .1 .3 .2), omega arith), record { len = k .ensures .0 .1; emitted = omega arith; tries = omega (arith, k .ensures .0 .2) })
+    (run-select (view s) (a .x) (a .p) (a .mode) (a .n) (a .t) (bareIn (k .result)) (k .ensures .0 .0), (omega (arith, k .ensures .0 .1, s .pre .1 .2 .2), omega arith), record { len = k .ensures .0 .1; emitted = omega arith; tries = omega (arith, k .ensures .0 .2) })
 
 pub selected-spec : {M : Type 1} → statement M
-selected-spec = tie.close (tie.spec select-requires add-t17 returns)
+selected-spec = tie.close (tie.spec select-requires add-t12 returns)

@@ -14,9 +14,9 @@ returns c = (c .holes .ensures .0 _ _ _ ∙ at-hole _ _ _ _ _ _ _ (c .before .if
 
 ranks-requires : tie.Need-ranks-requires
 ranks-requires c κs =
-    let s = c .before .before .before .before .before .before .before in
-    let b = bucket-of (s .args .a) (s .pre .1 .0 .2) (c .if1 .left) in
-    (s .pre .0, ((s .pre .1 .0 .0, s .pre .1 .0 .1, b .0, b .1), s .pre .1 .1))
+    let s = c .before in
+    let b = bucket-of (s .args .a) (s .pre .1 .0 .1) (c .if1 .left) in
+    (s .pre .0, ((s .pre .1 .0 .0, b .0, b .1), s .pre .1 .1))
 
 returns-2 : tie.Need-returns-2
 returns-2 c = (c .ranks .ensures .0 ∙ at-bucket _ _ _ _ _ _ _ (c .before .if1 .left), c .ranks .ensures .1)

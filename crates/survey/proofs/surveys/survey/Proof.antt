@@ -7,8 +7,6 @@ use native.Mathlib.Nat.{add-sub-cancel-left}
 use borrow.Author.Needs.{needs}
 use lib.ListN.{length}
 use Rattle.definitions.specs.Select.{Place}
-use Rattle.hierarchy.specs.Arrays.{viewFrom}
-use Rattle.placement.specs.Progress.{actionsTo}
 use Rattle.survey.specs.Places.{placesAt, few-moves}
 use Rattle.survey.specs.Between.{answers}
 use Rattle.survey.specs.Surveyed.{Sofar, room, small, sofar-none, sofar-more, surveyed-stale, surveyed-all}
@@ -16,37 +14,33 @@ use Rattle.survey.proofs.surveys.survey.Statement.{statement}
 use Rattle.survey.proofs.surveys.survey.Tie as tie
 
 abbrev Inv-loop : tie.InvT-loop
-Inv-loop first count types items weights acceptance weights2 acceptance2 seed steps n groups w table changed₀ moves₀ g₀ changed moves g =
+Inv-loop plan old new rule groups w table changed₀ moves₀ g₀ changed moves g =
     (g ≤ groups)
-    × Sofar w (placesAt (viewFrom seed first count types items weights acceptance) (actionsTo steps n) n w) (placesAt (viewFrom seed first count types items weights2 acceptance2) (actionsTo steps n) n w) g table moves changed
+    × Sofar w (placesAt plan old rule w) (placesAt plan new rule w) g table moves changed
 
 abbrev μ-loop : tie.MeasureT-loop
-μ-loop first count types items weights acceptance weights2 acceptance2 seed steps n groups w table changed₀ moves₀ g₀ changed moves g = groups - g
+μ-loop plan old new rule groups w table changed₀ moves₀ g₀ changed moves g = groups - g
 
 unmarked-requires : tie.Need-unmarked-requires Inv-loop μ-loop
 unmarked-requires c κs = search needs
 
 -- the places of the groups in the old run and in the new
 abbrev olds : tie.Start Inv-loop μ-loop → ℕ → List Place
-olds s =
-    let a = s .args in
-    placesAt (viewFrom (a .seed) (a .first .now) (a .count .now) (a .types .now) (a .items .now) (a .weights .now) (a .acceptance .now)) (actionsTo (a .steps) (a .n)) (a .n) (a .w)
+olds s = let a = s .args in placesAt (a .plan .now) (a .old .now) (a .rule) (a .w)
 
 abbrev news : tie.Start Inv-loop μ-loop → ℕ → List Place
-news s =
-    let a = s .args in
-    placesAt (viewFrom (a .seed) (a .first .now) (a .count .now) (a .types .now) (a .items .now) (a .weights2 .now) (a .acceptance2 .now)) (actionsTo (a .steps) (a .n)) (a .n) (a .w)
+news s = let a = s .args in placesAt (a .plan .now) (a .new .now) (a .rule) (a .w)
 
 -- in a turn, row g is within the table, and a small number
 abbrev start : tie.In-loop Inv-loop μ-loop → tie.Start Inv-loop μ-loop
-start c = c .before .before .before .before .before .before .before .before .before .before .before .before
+start c = c .before .before .before .before
 
 ends : (c : tie.In-loop Inv-loop μ-loop) → let s = start c in
     (c .before .loop .g * s .args .w + s .args .w ≤ length (s .args .table .now)) × (c .before .loop .g * s .args .w + s .args .w ≤ 2097152)
 ends c =
     let s = start c in
-    let p = s .pre .1 .1 in
-    (omega (arith, room (c .before .loop .g) (s .args .groups) (s .args .w) (c .loop-test .taken), p .3), small (c .before .loop .g) (s .args .groups) (s .args .w) (c .loop-test .taken) (p .2) (p .1))
+    let p = s .pre .1 in
+    (omega (arith, room (c .before .loop .g) (s .args .groups) (s .args .w) (c .loop-test .taken), p .1), small (c .before .loop .g) (s .args .groups) (s .args .w) (c .loop-test .taken) (p .0) (s .pre .0 .0 .3))
 
 loop-holds : tie.Need-loop-holds Inv-loop μ-loop
 loop-holds c = (omega arith, sofar-none _ _ _ _ _ (search (needs, c .unmarked .ok)))
@@ -75,7 +69,7 @@ part-look-end c = ends c .0
 look-requires : tie.Need-look-requires Inv-loop μ-loop
 look-requires c κs =
     let s = start (c .before) in
-    (s .pre .0, (s .pre .1 .0, (s .pre .1 .1 .0, s .pre .1 .1 .1, c .look-arg .given .2 ∙ add-sub-cancel-left _ _)))
+    (s .pre .0 .0, s .pre .0 .1, c .look-arg .given .2 ∙ add-sub-cancel-left _ _)
 
 enum-told : tie.Need-enum-told Inv-loop μ-loop
 enum-told c = search needs
@@ -86,7 +80,7 @@ returns c =
     let t = k .before .before in
     let s = start t in
     let l = t .before .loop in
-    let q = surveyed-stale (s .args .w) (olds s) (news s) (l .g) (s .args .groups) (s .args .table .now) (l .changed) (l .moves) (l .inv .1) (t .loop-test .taken) (s .pre .1 .1 .3) _ (add-sub-cancel-left _ _) (k .look .result) (k .look .ensures) (c .enum-told .given .1) in
+    let q = surveyed-stale (s .args .w) (olds s) (news s) (l .g) (s .args .groups) (s .args .table .now) (l .changed) (l .moves) (l .inv .1) (t .loop-test .taken) (s .pre .1 .1) _ (add-sub-cancel-left _ _) (k .look .result) (k .look .ensures) (c .enum-told .given .1) in
     (q, answers q)
 
 enum-known-o : tie.Need-enum-known-o Inv-loop μ-loop
@@ -101,19 +95,19 @@ cast-changed c = search needs
 array-write-changed : tie.Need-array-write-changed Inv-loop μ-loop
 array-write-changed c =
     let t = c .before .before .before .before .before .before in
-    omega (arith, t .loop-test .taken, start t .pre .1 .1 .2)
+    omega (arith, t .loop-test .taken, start t .pre .1 .0)
 
 add-moves : tie.Need-add-moves Inv-loop μ-loop
 add-moves c =
     let t = c .before .before .before .before .before .before in
     let k = c .before .before .before .before in
     let l = t .before .loop in
-    omega (arith, l .inv .1 .few, few-moves _ _ _ _ _ (k .look .result) _ (k .look .ensures) (c .before .before .o .given .1), t .loop-test .taken, start t .pre .1 .1 .2)
+    omega (arith, l .inv .1 .few, few-moves _ _ _ _ _ (k .look .result) _ (k .look .ensures) (c .before .before .o .given .1), t .loop-test .taken, start t .pre .1 .0)
 
 add-g : tie.Need-add-g Inv-loop μ-loop
 add-g c =
     let t = c .before .before .before .before .before .before in
-    omega (arith, t .loop-test .taken, start t .pre .1 .1 .2)
+    omega (arith, t .loop-test .taken, start t .pre .1 .0)
 
 loop-less : tie.Need-loop-less Inv-loop μ-loop
 loop-less c =
@@ -126,11 +120,11 @@ loop-again c =
     let s = start t in
     let l = t .before .loop in
     let k = c .before .before .before .before in
-    (omega (arith, t .loop-test .taken), sofar-more (s .args .w) (olds s) (news s) (l .g) (s .args .groups) (s .args .table .now) (l .changed) (l .moves) (l .inv .1) (t .loop-test .taken) (s .pre .1 .1 .3) _ (add-sub-cancel-left _ _) (k .look .result) (k .look .ensures) (c .before .before .o .given .0 .0) (c .mark .result) (omega (arith, t .loop-test .taken, s .pre .1 .1 .2)) (c .before .before .o .given .1) (c .mark .ensures))
+    (omega (arith, t .loop-test .taken), sofar-more (s .args .w) (olds s) (news s) (l .g) (s .args .groups) (s .args .table .now) (l .changed) (l .moves) (l .inv .1) (t .loop-test .taken) (s .pre .1 .1) _ (add-sub-cancel-left _ _) (k .look .result) (k .look .ensures) (c .before .before .o .given .0 .0) (c .mark .result) (omega (arith, t .loop-test .taken, s .pre .1 .0)) (c .before .before .o .given .1) (c .mark .ensures))
 
 returns-2 : tie.Need-returns-2 Inv-loop μ-loop
 returns-2 c =
-    let s = c .before .before .before .before .before .before .before .before .before .before .before .before in
+    let s = c .before .before .before .before in
     let l = c .before .loop in
     let q = surveyed-all (s .args .w) (olds s) (news s) (l .g) (s .args .groups) (s .args .table .now) (l .changed) (l .moves) (omega arith) (l .inv .1) in
     (q, answers q)

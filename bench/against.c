@@ -1,0 +1,117 @@
+/*
+ * Measures two builds of the engine on one map, by turns, and compares what they give byte for byte.
+ *
+ * usage: against MAP ROUNDS
+ *
+ * A line for each call: its name, and the nanoseconds of the build before and of this one, best of all rounds. The exports of the build before
+ * have been renamed from bench_ to before_ (bench/against).
+ */
+#define _POSIX_C_SOURCE 200809L
+#include <stdint.h>
+#include <stdio.h>
+#include <stdlib.h>
+#include <string.h>
+#include <time.h>
+
+enum { MOST = 65537, PLACES = 65536 * 4, SPACE = 1 << 20, FRAME = 14, FIRST = 11, LINE = 23 };
+
+struct filling {
+    uint32_t number;
+    size_t places;
+};
+struct made {
+    uint32_t number, moves;
+};
+uint32_t bench_load(const uint8_t *, size_t), before_load(const uint8_t *, size_t);
+struct filling bench_fill(const uint8_t *, size_t, uint16_t *, size_t), before_fill(const uint8_t *, size_t, uint16_t *, size_t);
+struct made bench_edit(uint8_t *, size_t, uint16_t *, size_t, const uint8_t *, size_t, uint8_t *, size_t),
+    before_edit(uint8_t *, size_t, uint16_t *, size_t, const uint8_t *, size_t, uint8_t *, size_t);
+
+/* What each build is lent: 0 is the one before. */
+static uint8_t map[2][MOST], space[2][SPACE];
+static uint16_t table[2][PLACES];
+static size_t len;
+
+static double now(void) {
+    struct timespec t;
+    clock_gettime(CLOCK_THREAD_CPUTIME_ID, &t);
+    return (double)t.tv_sec * 1e9 + (double)t.tv_nsec;
+}
+
+static void expect_same(const char *what) {
+    if (memcmp(map[0], map[1], len) == 0 && memcmp(table[0], table[1], sizeof table[0]) == 0 && memcmp(space[0], space[1], SPACE) == 0)
+        return;
+    fprintf(stderr, "unequal: %s\n", what);
+    exit(1);
+}
+
+typedef uint32_t call(int build, const char *frame);
+
+static uint32_t load(int build, const char *frame) {
+    (void)frame;
+    return build == 0 ? before_load(map[0], len) : bench_load(map[1], len);
+}
+
+static uint32_t fill(int build, const char *frame) {
+    (void)frame;
+    return (build == 0 ? before_fill : bench_fill)(map[build], len, table[build], PLACES).number;
+}
+
+static uint32_t edit(int build, const char *frame) {
+    const uint8_t *f = (const uint8_t *)frame;
+    return (build == 0 ? before_edit : bench_edit)(map[build], len, table[build], PLACES, f, FRAME, space[build], SPACE).number;
+}
+
+/* Each round both builds, the one ahead by turns; with frames, each is one edit and its return. */
+static void measure(const char *name, call *f, int rounds, const char *const *frames) {
+    double best[2] = {0, 0};
+    for (int i = 0; i < 2 * rounds; i++) {
+        for (int j = 0; j < 2; j++) {
+            int build = (i / 2 + j) % 2;
+            double a = now();
+            uint32_t number = f(build, frames == NULL ? NULL : frames[i % 2]);
+            double took = now() - a;
+            if (number != 0) {
+                fprintf(stderr, "%s: refused, %u\n", name, number);
+                exit(1);
+            }
+            if (best[build] == 0 || took < best[build])
+                best[build] = took;
+        }
+        expect_same(name);
+    }
+    printf("%s %.1f %.1f\n", name, best[0], best[1]);
+}
+
+static uint32_t field(const uint8_t *at, size_t digits) {
+    char word[9] = {0};
+    memcpy(word, at, digits);
+    return (uint32_t)strtoul(word, NULL, 16);
+}
+
+int main(int argc, char **argv) {
+    FILE *f = argc == 3 ? fopen(argv[1], "rb") : NULL;
+    if (f == NULL) {
+        fprintf(stderr, "usage: against MAP ROUNDS\n");
+        return 2;
+    }
+    len = fread(map[0], 1, MOST, f);
+    fclose(f);
+    memcpy(map[1], map[0], len);
+    int rounds = atoi(argv[2]);
+    measure("load", load, 50 * rounds, NULL);
+    measure("fill", fill, rounds, NULL);
+    /* the first drive of group 0 fails and comes back, then loses half of its weight and has it again */
+    uint32_t drive = table[0][0], weight = 0;
+    for (const uint8_t *line = map[0] + FIRST; field(line, 2) == 1; line += LINE)
+        if (field(line + 2, 4) == drive)
+            weight = field(line + 6, 8);
+    char frames[4][FRAME + 1];
+    snprintf(frames[0], sizeof frames[0], "21%04x%08x", drive & 0xffff, 0u);
+    snprintf(frames[1], sizeof frames[1], "21%04x%08x", drive & 0xffff, 0x10000u);
+    snprintf(frames[2], sizeof frames[2], "22%04x%08x", drive & 0xffff, weight / 2);
+    snprintf(frames[3], sizeof frames[3], "22%04x%08x", drive & 0xffff, weight);
+    measure("acceptance", edit, rounds, (const char *const[]){frames[0], frames[1]});
+    measure("weight", edit, rounds, (const char *const[]){frames[2], frames[3]});
+    return 0;
+}

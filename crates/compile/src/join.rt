@@ -1,0 +1,48 @@
+// Arrays laid into the plan and into the values.
+ghost use mathlib.Core.Path.{_≡_};
+ghost use Prim.Native.Nat.{_+_, _≤_};
+ghost use lib.ListN.{length};
+ghost use Rattle.hierarchy.specs.Sections.{Laid};
+ghost use Rattle.hierarchy.specs.Arrays.{firstsIn, countsIn, typesIn, childrenIn, seedIn, acceptancesIn};
+use hierarchy::Plan;
+use hierarchy::Values;
+
+// All of from over to, from a on.
+fn lay<'a, 'b>(from: &'a [u32], to: &'b mut [u32], a: usize)
+    requires { ⌜ a + length (now from) ≤ length (now to) ⌝ }
+    ensures { λ _. ⌜ Laid a (length (now (from .entry))) (now (from .entry)) (now (to .entry)) (now (to .exit)) ⌝ }
+{
+    let mut i: usize = 0;
+    while i < from.len() {
+        to[a + i] = from[i];
+        i += 1;
+    }
+}
+
+pub fn plan_of<'a>(
+    first: &'a [u32; 256],
+    count: &'a [u32; 256],
+    types: &'a [u32; 256],
+    items: &'a [u32; 1280],
+    seed: u32,
+) -> Plan
+    ensures { λ p. ⌜ (firstsIn p ≡ now (first .entry)) × (countsIn p ≡ now (count .entry)) × (typesIn p ≡ now (types .entry))
+        × (childrenIn p ≡ now (items .entry)) × (seedIn p ≡ seed) ⌝ }
+{
+    let mut plan = [0u32; hierarchy::SEED + 1];
+    lay(first, &mut plan, 0);
+    lay(count, &mut plan, hierarchy::COUNT);
+    lay(types, &mut plan, hierarchy::TYPES);
+    lay(items, &mut plan, hierarchy::CHILDREN);
+    plan[hierarchy::SEED] = seed;
+    plan
+}
+
+pub fn values_of<'a>(acceptance: &'a [u32; 1024], weights: &'a [u32; 1280]) -> Values
+    ensures { λ v. ⌜ (acceptancesIn v ≡ now (acceptance .entry)) × (childrenIn v ≡ now (weights .entry)) ⌝ }
+{
+    let mut values = [0u32; hierarchy::SEED];
+    lay(acceptance, &mut values, 0);
+    lay(weights, &mut values, hierarchy::CHILDREN);
+    values
+}

@@ -1,0 +1,307 @@
+-- Document 01, "Walk, select and rule": where entries come from. What a select puts out is a hole, or was drawn and has the wanted type;
+-- what stands in a working list is a hole, or was taken or drawn and has the type reached. So in a loadable map each entry of a group's
+-- list is a hole or a device of the map. Assumes nothing.
+use mathlib.Core.Path.{_≡_, refl, sym, ap, _∙_, subst}
+use mathlib.Core.Bool.{Bool, true, false, cond, _&&_}
+use mathlib.Core.List.{List, [], _∷_, _++_, List·Memᴰ, List·Memᴰ·append-cases, List·Memᴰ·eq-of-singleton, Memᴰ·of-map}
+use mathlib.Core.Logic.{_⊎_, inl, inr, ⊎-elim}
+use Prim.Native.Nat.{ℕ, zero, suc, _-_, _<_, _≤_}
+use native.Mathlib.Nat.{le-of-lt}
+use native.Mathlib.Omega.{arith}
+use lib.Dec.{ltb, eqb}
+use lib.ListN.{length, getD, replicate}
+use borrow.Author.Tests.{eqb-true, leb-true, le-leb}
+use Rattle.definitions.specs.declared.Action.{Action}
+use Rattle.definitions.specs.declared.Action.the-variants.{Take, Select, Emit, Idle}
+use Rattle.definitions.specs.declared.Bucket.{Bucket}
+use Rattle.definitions.specs.declared.Device.{Device}
+use Rattle.definitions.specs.declared.Drawn.{Drawn}
+use Rattle.definitions.specs.declared.Drawn.the-variants.{Winner, Nothing}
+use Rattle.definitions.specs.declared.Link.{Link}
+use Rattle.definitions.specs.declared.Mode.{Mode}
+use Rattle.definitions.specs.declared.Mode.the-variants.{FirstN, Independent}
+use Rattle.definitions.specs.declared.State.{State}
+use Rattle.definitions.specs.declared.Turn.{Turn}
+use Rattle.definitions.specs.declared.Turn.the-variants.{Fill, Fail}
+use Rattle.definitions.specs.declared.Verdict.{Verdict}
+use Rattle.definitions.specs.declared.Verdict.the-variants.{Held, Rejected, Passed}
+use Rattle.definitions.specs.Hash.{S}
+use Rattle.definitions.specs.Map.{Map, isBucket, bucketItem, bucketNumber, actionsOf}
+use Rattle.definitions.specs.View.{View, childrenOf, weightsOf, bucketType, typeBy, typeOf, viewOf}
+use Rattle.definitions.specs.Walk.{hole, Descent, RankEvents, drawAt, landing, deeper, onWinner, onDrawn, descendIn, descend, verdictOf, tryNumber, rankEnd, onVerdict, tested, untested, onward, afterTurn, onTurn, onType, onLanded, onDescent, turnOf, rankFrom, rankOf}
+use Rattle.definitions.specs.Select.{Place, Selected, entriesOf, placeUnder, putOut, holesUnder, nowhere, withRank, nextRank, ranksTo, withHoles, selectAt, selectTo, selectOf}
+use Rattle.definitions.specs.Rule.{Run, taken, selected, act, runTo, widthOf, padded, placedBy, placedOf}
+use Rattle.definitions.specs.Load.{deviceRanged, bucketRanged, hasDevice, hasBucket, hasItem, takesPresent}
+use Rattle.laws.specs.Lists.{both, every-at}
+use Rattle.laws.specs.Members.{mem-every, mem-at}
+use Rattle.laws.specs.Counting.{number-at, lookup-is}
+use Rattle.laws.specs.Draw.{winner-child}
+use Rattle.laws.specs.Loadable.{Loadable, BucketRanged, ChildRanged, ranged-is, device-ranged, bucket-ranged, rising-is, present-is}
+use Rattle.laws.specs.Blocks.{reachedBy, reached, reached-inside, emit-inside}
+use Rattle.laws.specs.Forest.{type-bucket, kids-bucket, kid-link}
+
+-- item i is the winner of some draw of group x
+abbrev pub DrawnBy : View → ℕ → ℕ → Type 0
+DrawnBy v x i = (r : ℕ) × (b : ℕ) × (drawAt v x r b ≡ Winner i)
+
+-- a hole, or an item of type t that was drawn
+abbrev pub Found : View → ℕ → ℕ → ℕ → Type 0
+Found v x t e = (e ≡ hole) ⊎ (DrawnBy v x e × (v .type e ≡ t))
+
+no-winner : (i : ℕ) → _≡_ {A = Drawn} Nothing (Winner i) → ⊥
+no-winner i e = let z : _≡_ {A = ℕ} 0 1 = cc in omega arith
+
+no-fill : (s : State) (i : ℕ) → _≡_ {A = Turn} (Fail s) (Fill i) → ⊥
+no-fill s i e = let z : _≡_ {A = ℕ} 0 1 = cc in omega arith
+
+-- ---- rank
+
+module _ (v : View) (x t : ℕ) where
+  -- what a descent comes to was drawn
+  descent-draws : (r k b i : ℕ) → descendIn v x t r k b .landed .drawn ≡ Winner i → DrawnBy v x i
+  unfolding descendIn onDrawn onWinner landing deeper
+  descent-draws r zero b i e = absurd (no-winner i e)
+  descent-draws r (suc k) b i e = from (drawAt v x r b) refl e (λ c. descent-draws r k c i)
+    where
+      on : (j : ℕ) (u : Bool) → drawAt v x r b ≡ Winner j → onWinner (descendIn v x t r k) r b j u .landed .drawn ≡ Winner i
+          → ((c : ℕ) → descendIn v x t r k c .landed .drawn ≡ Winner i → DrawnBy v x i) → DrawnBy v x i
+      on j true q h rest = rest (bucketNumber j) h
+      on j false q h rest = (r, b, q ∙ h)
+
+      from : (d : Drawn) → drawAt v x r b ≡ d → onDrawn v x t r (descendIn v x t r k) b d .landed .drawn ≡ Winner i
+          → ((c : ℕ) → descendIn v x t r k c .landed .drawn ≡ Winner i → DrawnBy v x i) → DrawnBy v x i
+      from (Winner j) q h rest = on j (ltb t (v .type j)) q h rest
+      from Nothing q h rest = absurd (no-winner i h)
+
+  module _ (mode : Mode) (n : ℕ) (entries : List ℕ) (start r : ℕ) where
+    verdict-fills : (s : State) (b i j : ℕ) (w : Verdict) → onVerdict start s b j w ≡ Fill i → j ≡ i
+    unfolding onVerdict
+    verdict-fills s b i j Held e = absurd (no-fill _ i e)
+    verdict-fills s b i j Rejected e = absurd (no-fill _ i e)
+    verdict-fills s b i j Passed e = cc
+
+    -- a place is filled with what the descent came to, of the wanted type
+    landed-fills : (s : State) (b i : ℕ) (c : Descent) (d : Drawn) → c .landed .drawn ≡ d
+        → onLanded v x mode n t entries start r s b (c .events) d .turn ≡ Fill i
+        → (c .landed .drawn ≡ Winner i) × (v .type i ≡ t)
+    unfolding onLanded onType tested untested
+    landed-fills s b i c Nothing q e = absurd (no-fill _ i e)
+    landed-fills s b i c (Winner j) q e = go (eqb (v .type j) t) refl e
+      where
+        go : (u : Bool) → eqb (v .type j) t ≡ u → onType v x mode n t entries start r s b (c .events) j u .turn ≡ Fill i
+            → (c .landed .drawn ≡ Winner i) × (v .type i ≡ t)
+        go true h f =
+            let same : j ≡ i = verdict-fills s b i j (verdictOf v x entries j) f in
+            (q ∙ ap Winner same, rw same at (eqb-true (v .type j) t h))
+        go false h f = absurd (no-fill _ i f)
+
+    turn-fills : (s : State) (i : ℕ) → turnOf v x mode n t entries start r s .turn ≡ Fill i → Found v x t i
+    unfolding turnOf onDescent descend
+    turn-fills s i e =
+        let c = descend v x t (tryNumber mode n r s) (s .at) in
+        let f = landed-fills s (c .landed .bucket) i c (c .landed .drawn) refl e in
+        inr (descent-draws (tryNumber mode n r s) _ (s .at) i (f .0), f .1)
+
+    rank-fills : (k : ℕ) (s : State) → Found v x t (rankFrom v x mode n t entries start r k s .ranked .entry)
+    unfolding rankFrom rankEnd onTurn afterTurn onward
+    rank-fills zero s = inl refl
+    rank-fills (suc k) s = go (turnOf v x mode n t entries start r s .turn) refl (rank-fills k)
+      where
+        after : State → RankEvents
+        after = rankFrom v x mode n t entries start r k
+
+        go : (u : Turn) → turnOf v x mode n t entries start r s .turn ≡ u → ((z : State) → Found v x t (after z .ranked .entry))
+            → Found v x t (afterTurn after s (turnOf v x mode n t entries start r s .events) u .ranked .entry)
+        go (Fill i) e rest = turn-fills s i e
+        go (Fail z) e rest = rest z
+
+    -- the entry of a rank is a hole, or an item of the wanted type that was drawn
+    pub rank-found : (f₀ : ℕ) → Found v x t (rankOf v x mode n t entries start r f₀ .ranked .entry)
+    unfolding rankOf
+    rank-found f₀ = rank-fills 50 _
+
+-- ---- select
+
+-- the entry of each place is such
+abbrev pub Entries : (ℕ → Type 0) → List Place → Type 0
+Entries P ps = (p : Place) → List·Memᴰ p ps → P (p .entry)
+
+module _ (P : ℕ → Type 0) where
+  none : Entries P []
+  none p i = elim i [ ]
+
+  one : (p : Place) → P (p .entry) → Entries P (p ∷ [])
+  one p h q i = subst (λ (o : Place). P (o .entry)) (sym (List·Memᴰ·eq-of-singleton i)) h
+
+  more : (ps qs : List Place) → Entries P ps → Entries P qs → Entries P (ps ++ qs)
+  more ps qs h k p i = ⊎-elim (h p) (k p) (List·Memᴰ·append-cases ps i)
+
+  copies : (n : ℕ) (p : Place) → P (p .entry) → Entries P (replicate n p)
+  copies zero p h = none
+  copies (suc n) p h = more (p ∷ []) (replicate n p) (one p h) (copies n p h)
+
+  -- so is each entry
+  pub each-entry : (ps : List Place) → Entries P ps → (e : ℕ) → List·Memᴰ e (entriesOf ps) → P e
+  unfolding entriesOf
+  each-entry ps h e i = let (p, j, q) = Memᴰ·of-map (λ (p : Place). p .entry) ps i in subst P q (h p j)
+
+module _ (v : View) (x : ℕ) (mode : Mode) (n t : ℕ) where
+  abbrev Founds : List Place → Type 0
+  Founds = Entries (Found v x t)
+
+  out-found : (o : Mode) (p : Place) → Found v x t (p .entry) → Founds (putOut o p)
+  unfolding putOut
+  out-found Independent p h = one (Found v x t) p h
+  out-found FirstN p h = go (eqb (p .entry) hole)
+    where
+      go : (u : Bool) → Founds (cond u [] (p ∷ []))
+      go true = none (Found v x t)
+      go false = one (Found v x t) p h
+
+  holes-found : (o : Mode) (above : Place) → Founds (holesUnder o n above)
+  unfolding holesUnder
+  holes-found Independent above = copies (Found v x t) n _ (inl refl)
+  holes-found FirstN above = none (Found v x t)
+
+  ranks-found : (above : Place) (s : Selected) (k : ℕ) → Founds (s .places) → Founds (ranksTo v x mode n t above s k .places)
+  unfolding ranksTo nextRank withRank placeUnder
+  ranks-found above s zero h = h
+  ranks-found above s (suc k) h =
+      let o = ranksTo v x mode n t above s k in
+      more (Found v x t) (o .places) _ (ranks-found above s k h)
+      (out-found mode _ (rank-found v x t mode n (entriesOf (o .places)) (bucketNumber (above .entry)) (suc k) (o .f)))
+
+  at-found : (above : Place) (s : Selected) (u : Bool) → Founds (s .places) → Founds (selectAt v x mode n t above s u .places)
+  unfolding selectAt withHoles
+  at-found above s true h = more (Found v x t) (s .places) _ h (holes-found mode above)
+  at-found above s false h = ranks-found above s n h
+
+  to-found : (working : List Place) (k : ℕ) → Founds (selectTo v x mode n t working k .places)
+  unfolding selectTo
+  to-found working zero = none (Found v x t)
+  to-found working (suc k) =
+      at-found (getD working k nowhere) (selectTo v x mode n t working k) (eqb (getD working k nowhere .entry) hole) (to-found working k)
+
+  -- each entry that a select puts out is a hole, or an item of the wanted type that was drawn
+  pub select-found : (working : List Place) → Entries (Found v x t) (selectOf v x mode n t working .places)
+  unfolding selectOf
+  select-found working = to-found working (length working)
+
+-- ---- rule
+
+-- a hole, or an item of type u that is such
+abbrev pub Reached : View → (ℕ → Type 0) → ℕ → ℕ → Type 0
+Reached v P u e = (e ≡ hole) ⊎ (P e × (v .type e ≡ u))
+
+-- P holds of what is drawn, and of each bucket taken, whose type types gives
+module _ (v : View) (x : ℕ) (types : ℕ → ℕ) (actions : List Action) (P : ℕ → Type 0) (drawn : (i : ℕ) → DrawnBy v x i → P i)
+    (takes : (k b : ℕ) → k < length actions → getD actions k Idle ≡ Take b → P (bucketItem b) × (v .type (bucketItem b) ≡ types b)) where
+  act-reached : (s : Run) (k u : ℕ) (a : Action) → k < length actions → getD actions k Idle ≡ a → Entries (Reached v P u) (s .working)
+      → Entries (Reached v P (reachedBy types u a)) (act v x s a .working)
+  unfolding act taken selected reachedBy
+  act-reached s k u (Take b) l e h = one (Reached v P (types b)) _ (inr (takes k b l e))
+  act-reached s k u (Select mode n t) l e h =
+      λ p i. ⊎-elim (λ q. inl q) (λ (d, q). inr (drawn (p .entry) d, q)) (select-found v x mode n t (s .working) p i)
+  act-reached s k u Emit l e h = h
+  act-reached s k u Idle l e h = h
+
+  -- after the first k steps each entry of the working list is a hole, or such an item of the type reached
+  pub working-reached : (k : ℕ) → k ≤ length actions → Entries (Reached v P (reached types actions k)) (runTo v x actions k .working)
+  unfolding runTo reached
+  working-reached zero h = none (Reached v P 0)
+  working-reached (suc k) h =
+      act-reached (runTo v x actions k) k (reached types actions k) (getD actions k Idle) h refl (working-reached k (omega arith))
+
+  -- where type 0 is reached at each emit, each entry emitted is a hole or such an item of type 0
+  module _ (falls : (k : ℕ) → k < length actions → getD actions k Idle ≡ Emit → reached types actions k ≡ 0) where
+    pub list-reached : (k : ℕ) → k ≤ length actions → Entries (Reached v P 0) (runTo v x actions k .list)
+    unfolding runTo act selected
+    list-reached zero h = none (Reached v P 0)
+    list-reached (suc k) h = go (getD actions k Idle) refl (list-reached k (omega arith))
+      where
+        go : (a : Action) → getD actions k Idle ≡ a → Entries (Reached v P 0) (runTo v x actions k .list)
+            → Entries (Reached v P 0) (act v x (runTo v x actions k) a .list)
+        go (Take b) e l = l
+        go (Select mode n t) e l = l
+        go Emit e l = more (Reached v P 0) (runTo v x actions k .list) _ l (rw (falls k h e) at (working-reached k (omega arith)))
+        go Idle e l = l
+
+-- ---- in a loadable map
+
+module _ (m : Map) (L : Loadable m) where
+  -- the frame of a bucket that is present
+  bucket-there : (b : ℕ) → hasBucket m b ≡ true → (k : Bucket) × (k .number ≡ b) × (bucketType m b ≡ k .ty) × BucketRanged k
+  unfolding hasBucket bucketType
+  bucket-there b e =
+      let none : Bucket = record { number = 0; ty = 0 } in
+      let (k, l, q, t) = lookup-is (λ (c : Bucket). c .number) none (λ (c : Bucket). c .ty) b (m .buckets) (rising-is m (L .rising) .buckets) e in
+      (getD (m .buckets) k none, q, t, bucket-ranged _ (every-at bucketRanged (m .buckets) k none (ranged-is m (L .ranged) .buckets) l))
+
+  -- its type is above 0
+  pub present-typed : (b : ℕ) → hasBucket m b ≡ true → 0 < bucketType m b
+  present-typed b e = let (k, q, t, r) = bucket-there b e in omega (arith, t, r .least)
+
+  -- an item that is present is in range
+  pub present-ranged : (i : ℕ) → hasItem m i ≡ true → ChildRanged i
+  unfolding hasItem hasDevice
+  present-ranged i h = go (isBucket i) refl h
+    where
+      go : (u : Bool) → isBucket i ≡ u → cond u (hasBucket m (bucketNumber i)) (hasDevice m i) ≡ true → ChildRanged i
+      go true e q = let (k, p, t, r) = bucket-there (bucketNumber i) q in let l = leb-true 65536 i e in inr (l, omega (arith, p, r .number))
+      go false e q =
+          let none : Device = record { number = 0; weight = 0; acceptance = 0 } in
+          let (k, l, t) = number-at (λ (c : Device). c .number) none i (m .devices) q in
+          inl (omega (arith, t, device-ranged (getD (m .devices) k none) (every-at deviceRanged (m .devices) k none (ranged-is m (L .ranged) .devices) l) .number))
+
+  -- and, where its type is 0, a device
+  pub present-device : (i : ℕ) → hasItem m i ≡ true → typeOf m i ≡ 0 → hasDevice m i ≡ true
+  unfolding hasItem typeOf typeBy
+  present-device i h t = go (isBucket i) h t
+    where
+      go : (u : Bool) → cond u (hasBucket m (bucketNumber i)) (hasDevice m i) ≡ true → typeBy m i u ≡ 0 → hasDevice m i ≡ true
+      go true q z = absurd (omega (arith, z, present-typed (bucketNumber i) q))
+      go false q z = q
+
+  -- an item that is drawn is present
+  pub drawn-present : (x i : ℕ) → DrawnBy (viewOf m) x i → hasItem m i ≡ true
+  unfolding viewOf drawAt
+  drawn-present x i (r, b, e) =
+      let (n, l, q, p) = winner-child S x r (childrenOf m b) (weightsOf m b) i e in
+      let (k, k∈, at, is) = kid-link m (bucketItem b) i (rw (kids-bucket m b, ← q) (mem-at 0 (childrenOf m b) n l)) in
+      let there = both (hasBucket m (k .bucket)) (hasItem m (k .child)) (mem-every (λ (j : Link). hasBucket m (j .bucket) && hasItem m (j .child)) k∈ (present-is m (L .present) .links)) .1 in
+      rw is at there
+
+  -- and so is a bucket that is taken
+  taken-present : (k b : ℕ) → k < length (actionsOf m) → getD (actionsOf m) k Idle ≡ Take b
+      → (hasItem m (bucketItem b) ≡ true) × (typeOf m (bucketItem b) ≡ bucketType m b)
+  unfolding hasItem takesPresent
+  taken-present k b h e =
+      let q : bucketNumber (bucketItem b) ≡ b = omega arith in
+      (rw (le-leb 65536 (bucketItem b) (omega arith), q) (rw e at (every-at (takesPresent m) (actionsOf m) k Idle (present-is m (L .present) .takes) h)), type-bucket m b)
+
+  module _ (x : ℕ) where
+    abbrev Item : ℕ → Type 0
+    Item i = hasItem m i ≡ true
+
+    -- after the first k steps each entry of the working list is a hole, or an item of the map of the type reached
+    pub working-present : (k : ℕ) → k ≤ length (actionsOf m)
+        → Entries (λ (e : ℕ). (e ≡ hole) ⊎ ((hasItem m e ≡ true) × (typeOf m e ≡ reached (bucketType m) (actionsOf m) k))) (runTo (viewOf m) x (actionsOf m) k .working)
+    unfolding viewOf
+    working-present = working-reached (viewOf m) x (bucketType m) (actionsOf m) Item (drawn-present x) taken-present
+
+    -- and each entry emitted is a hole or a device of the map
+    pub emitted-devices : (k : ℕ) → k ≤ length (actionsOf m)
+        → Entries (λ (e : ℕ). (e ≡ hole) ⊎ (hasDevice m e ≡ true)) (runTo (viewOf m) x (actionsOf m) k .list)
+    unfolding viewOf
+    emitted-devices k h p i =
+        ⊎-elim (λ q. inl q) (λ (o, t). inr (present-device (p .entry) o t))
+        (list-reached (viewOf m) x (bucketType m) (actionsOf m) Item (drawn-present x) taken-present
+        (λ j l e. reached-inside m (L .inBlocks) (bucketType m) (λ o b g q. refl) j 0 (le-of-lt l) (emit-inside m (L .inBlocks) j l e)) k h p i)
+
+    -- each entry of a group's list is a hole or a device of the map
+    pub list-devices : (e : ℕ) → List·Memᴰ e (entriesOf (placedOf m x .places)) → (e ≡ hole) ⊎ (hasDevice m e ≡ true)
+    unfolding placedOf placedBy padded nowhere
+    list-devices =
+        let ps = runTo (viewOf m) x (actionsOf m) (length (actionsOf m)) .list in
+        each-entry _ (padded (widthOf m) ps)
+        (more _ ps _ (emitted-devices (length (actionsOf m)) (omega arith)) (copies _ (widthOf m - length ps) nowhere (inl refl)))
