@@ -51,7 +51,7 @@ def half(n):
 
 ARCHIVE = pathlib.Path(__file__).resolve().parent.parent / "examples" / "archive.map"
 
-# the maps of the table: 1,024 drives each, and the example archive of 223
+# the maps of the table: 1,024 drives each, and the example archive of 224
 COMPARED = [
     ("equal", "4 x 16 x 16, equal weights", lambda: tree(1024, (4, 16, 16))),
     ("mixed", "4 x 16 x 16, mixed weights", lambda: tree(1024, (4, 16, 16), weight=mixed)),

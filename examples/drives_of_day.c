@@ -7,7 +7,8 @@
  *     gcc -O2 -Wall -Wextra -std=c11 -Iinclude -o target/drives_of_day examples/drives_of_day.c target/staticlib/libengine.a
  *     target/drives_of_day examples/archive.map 816 20261115
  *
- * The exit status is 0; or 1 for a refusal, whose number and meaning go to standard error; or 2 where the arguments or the file are at fault.
+ * SHOW and DAY are decimal. The exit status is 0; or 1 for a refusal, whose number and meaning go to standard error; or 2 where the arguments or
+ * the file are at fault or the output cannot be written.
  */
 #include "crush_place.h"
 
@@ -58,13 +59,13 @@ static const char *meaning(uint32_t number) {
 /* One byte more than a map may have, so that a longer file is refused and not cut short. */
 static uint8_t map[MAP_MOST + 1];
 
-/* The number that a word spells, of 32 bits. */
+/* The decimal number that a word spells, of 32 bits. */
 static uint32_t number_of(const char *word) {
     char *end = NULL;
     errno = 0;
-    unsigned long n = strtoul(word, &end, 0);
-    if (word[0] == '-' || end == word || *end != '\0' || errno != 0 || n > UINT32_MAX) {
-        fprintf(stderr, "%s: not a number of 32 bits\n", word);
+    unsigned long n = strtoul(word, &end, 10);
+    if (word[0] < '0' || word[0] > '9' || *end != '\0' || errno != 0 || n > UINT32_MAX) {
+        fprintf(stderr, "%s: not a decimal number of 32 bits\n", word);
         exit(2);
     }
     return (uint32_t)n;
@@ -107,6 +108,10 @@ int main(int argc, char **argv) {
             printf("hole\n");
         else
             printf("%04x\n", drive);
+    }
+    if (fflush(stdout) != 0 || ferror(stdout)) {
+        perror("standard output");
+        return 2;
     }
     return 0;
 }

@@ -1,7 +1,8 @@
 /*
  * Placing a group of the podcast archive on its drives, for the storage daemon.
  *
- * Link with the archive that `rt staticlib engine` writes (target/staticlib/libengine.a).
+ * Link with the archive that `rt staticlib engine` writes (target/staticlib/libengine.a). It has no unwind tables and no debug lines: inside it a
+ * debugger shows the names of functions but no lines, and a backtrace may end there.
  */
 #ifndef CRUSH_PLACE_H
 #define CRUSH_PLACE_H

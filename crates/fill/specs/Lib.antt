@@ -1,2 +1,3 @@
--- What the program's proofs need of the table that it prints.
+-- What the program's proofs need of the bytes that it reads and of the table that it prints.
+pub mod Gathering
 pub mod Printed

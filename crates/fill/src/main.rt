@@ -1,12 +1,38 @@
 // Program `fill` of document 01, "Samples": reads a map and then edits from standard input; prints the row of each group, then each edit's
-// moves or its refusal. It only moves bytes: what they mean and what is printed is decided in `engine` and `report`.
+// moves or its refusal, as soon as the bytes that ask for it are there. It only moves bytes: what they mean and what is printed is decided
+// in `engine` and `report`. At the first read or write that fails it stops.
+mod system;
+
 ghost use mathlib.Core.Path.{_≡_};
-ghost use Prim.Native.Nat.{_+_, _*_, _≤_};
-ghost use lib.ListN.{length};
-use libc::STDIN_FILENO;
-use libc::STDOUT_FILENO;
+ghost use mathlib.Core.Bool.{true};
+ghost use mathlib.Core.List.{List, _++_};
+ghost use Prim.Native.Nat.{ℕ, _+_, _*_, _<_, _≤_};
+ghost use lib.ListN.{length, take};
+ghost use Rattle.report.specs.Edits.{session, bytesOf};
+ghost use Rattle.report.specs.Kept.{Keeps};
+ghost use Rattle.report.specs.Reads.{Led, Ended};
+ghost use Rattle.fill.specs.Gathering.{Gathers};
 use report::edits;
 use report::edits::Line;
+use report::input;
+use report::input::Spot;
+use system::Got;
+
+// What was read for the map: where the map stands, how many of the bytes are its own, how many were read; whether to read on, and whether a
+// read failed.
+struct Gathered {
+    spot: Spot,
+    map: usize,
+    read: usize,
+    go: bool,
+    failed: bool,
+}
+
+// The line under way, and whether all went well.
+struct Taken {
+    line: Line,
+    ok: bool,
+}
 
 fn wide(x: u32) -> usize
     ensures { λ r. ⌜ r ≡ x ⌝ }
@@ -17,28 +43,31 @@ fn wide(x: u32) -> usize
 fn print_refusal(number: u32) {
     let mut line = [0u8; 5];
     report::lines::refusal_line(number, &mut line);
-    io::write_all(STDOUT_FILENO, &line);
+    system::print(&line);
 }
 
 // Prints a row by way of line, which has the row line's length.
-fn print_row(group: u32, row: &[u16], line: &mut [u8])
+fn print_row(group: u32, row: &[u16], line: &mut [u8]) -> bool
     requires { ⌜ (length (now line) ≡ 11 + 4 * length (now row)) × (length (now row) ≤ 32) ⌝ }
 {
     report::lines::row_line(group, row, line);
-    io::write_all(STDOUT_FILENO, line);
+    system::print(line)
 }
 
 // Prints the rows of the groups below `groups`, each w places wide, by way of line.
-fn print_rows(table: &[u16], groups: u32, w: usize, line: &mut [u8])
+fn print_rows(table: &[u16], groups: u32, w: usize, line: &mut [u8]) -> bool
     requires { ⌜ (w ≤ 32) × (groups * w ≤ length (now table)) × (length (now line) ≡ 11 + 4 * w) ⌝ }
 {
     let mut g: u32 = 0;
     while g < groups {
         let a = wide(g) * w;
         let e = a + w;
-        print_row(g, &table[a..e], line);
+        if !print_row(g, &table[a..e], line) {
+            return false;
+        }
         g += 1;
     }
+    true
 }
 
 // One byte more than load takes, so that a map that does not fit is refused as too long.
@@ -85,84 +114,160 @@ fn place_all(map: &[u8], table: &mut [u16]) -> bool {
     let w = filled.places / wide(groups);
     let n = 11 + 4 * w;
     let mut space = line_space();
-    print_rows(table, groups, w, &mut space[..n]);
-    true
+    print_rows(table, groups, w, &mut space[..n])
 }
 
-fn print_front(space: &[u8], n: usize)
+// Whether there is more of the map to read.
+fn goes_on(got: Got, spot: Spot) -> bool
+    ensures { λ r. ⌜ (r ≡ true → 0 < got .count) ⌝ }
+{
+    if got.count == 0 {
+        return false;
+    }
+    !input::is_whole(spot)
+}
+
+// One read more for the map.
+fn gather_some(space: &mut [u8], g: Gathered) -> Gathered
+    requires { ⌜ Gathers g (now space) ⌝ }
+    ensures { λ r. ⌜ Gathers r (now (space .exit)) × (r .go ≡ true → g .read < r .read) ⌝ }
+{
+    let n = g.read;
+    let before = g.spot;
+    let got = system::read_some(&mut space[n..]);
+    let e = n + got.count;
+    let part = input::map_part(before, &space[n..e]);
+    let spot = part.spot;
+    Gathered {
+        spot,
+        map: g.map + part.count,
+        read: e,
+        go: goes_on(got, spot),
+        failed: got.failed,
+    }
+}
+
+// Reads until the map is whole, the input ends, a read fails or the space is full.
+fn gather(space: &mut [u8]) -> Gathered
+    ensures { λ r. ⌜ Gathers r (now (space .exit)) ⌝ }
+{
+    let mut g = Gathered {
+        spot: Spot::Start,
+        map: 0,
+        read: 0,
+        go: true,
+        failed: false,
+    };
+    while g.read < space.len() {
+        let next = gather_some(space, g);
+        if !next.go {
+            return next;
+        }
+        g = next;
+    }
+    g
+}
+
+fn print_front(space: &[u8], n: usize) -> bool
     requires { ⌜ n ≤ length (now space) ⌝ }
 {
-    io::write_all(STDOUT_FILENO, &space[..n]);
+    system::print(&space[..n])
 }
 
-// Prints what a byte of the edits leads to.
-fn take_byte(map: &mut [u8], table: &mut [u16], l: Line, b: u8, space: &mut [u8]) -> Line
-    requires { ⌜ (5 ≤ length (now space)) × (l .count ≤ 15) ⌝ }
-    ensures { λ r. ⌜ r .count ≤ 15 ⌝ }
-{
-    let turn = edits::on_byte(map, table, l, b, space);
-    print_front(space, turn.printed);
-    turn.line
-}
-
-fn take_bytes(map: &mut [u8], table: &mut [u16], line: Line, read: &[u8], space: &mut [u8]) -> Line
+// Takes the bytes read and prints what each line leads to, before the space is used for the next.
+fn take_bytes(map: &mut [u8], table: &mut [u16], line: Line, read: &[u8], space: &mut [u8]) -> Taken
     requires { ⌜ (5 ≤ length (now space)) × (line .count ≤ 15) ⌝ }
-    ensures { λ r. ⌜ r .count ≤ 15 ⌝ }
+    ensures { λ r. ⌜ (r .line .count ≤ 15) × ((xs : List ℕ) → Keeps line xs → r .ok ≡ true → Led (r .line) (now (map .exit)) (now (table .exit))
+        (bytesOf (now (space .entry)) (session (now (map .entry)) (now (table .entry)) xs) (now (read .entry)))) ⌝ }
 {
     let mut l = line;
     let mut i: usize = 0;
     while i < read.len() {
-        l = take_byte(map, table, l, read[i], space);
-        i += 1;
+        let run = edits::on_bytes(map, table, l, &read[i..], space);
+        let turn = run.turn;
+        l = turn.line;
+        if !print_front(space, turn.printed) {
+            return Taken { line: l, ok: false };
+        }
+        i += run.used;
     }
-    l
+    Taken { line: l, ok: true }
 }
 
-// Reads on to the input's end. A proved loop has to end, and nothing says that the input does: the turns are counted down from a number
-// that no run uses up.
+// Reads on to the input's end: some bytes bs, cut as the system gives them. The turns are counted down as in `system`.
 fn take_input(
     map: &mut [u8],
     table: &mut [u16],
     line: Line,
     buffer: &mut [u8],
     space: &mut [u8],
-) -> Line
+) -> Taken
     requires { ⌜ (5 ≤ length (now space)) × (line .count ≤ 15) ⌝ }
-    ensures { λ r. ⌜ r .count ≤ 15 ⌝ }
+    ensures { λ r. ⌜ (r .line .count ≤ 15) × ((xs : List ℕ) → Keeps line xs → r .ok ≡ true → (bs : List ℕ) × Led (r .line) (now (map .exit)) (now (table .exit))
+        (bytesOf (now (space .entry)) (session (now (map .entry)) (now (table .entry)) xs) bs)) ⌝ }
 {
     let mut l = line;
     let mut turns = u64::MAX;
     while turns > 0 {
-        let n = io::read_full(STDIN_FILENO, buffer);
+        let got = system::read_some(buffer);
+        let n = got.count;
         if n == 0 {
-            return l;
+            return Taken {
+                line: l,
+                ok: !got.failed,
+            };
         }
-        l = take_bytes(map, table, l, &buffer[..n], space);
+        let taken = take_bytes(map, table, l, &buffer[..n], space);
+        if !taken.ok {
+            return taken;
+        }
+        l = taken.line;
         turns -= 1;
     }
-    l
+    Taken { line: l, ok: true }
 }
 
-// "Each later line, an unended last one too, is one edit." The first n bytes of the buffer are those that were read behind the map.
-fn edit_all(map: &mut [u8], table: &mut [u16], buffer: &mut [u8], n: usize)
-    requires { ⌜ n ≤ length (now buffer) ⌝ }
+// "Each later line, an unended last one too, is one edit." The first n bytes of the buffer are those that were read behind the map; some
+// bytes bs follow them, and the end of the input. It answers whether all went well.
+fn edit_all(
+    map: &mut [u8],
+    table: &mut [u16],
+    buffer: &mut [u8],
+    n: usize,
+    space: &mut [u8],
+) -> bool
+    requires { ⌜ (n ≤ length (now buffer)) × (5 ≤ length (now space)) ⌝ }
+    ensures { λ r. ⌜ (r ≡ true → (bs : List ℕ) × Ended (now (space .entry)) (now (map .entry)) (now (table .entry)) (take n (now (buffer .entry)) ++ bs)
+        (now (map .exit)) (now (table .exit))) ⌝ }
 {
-    let mut space = moves_space();
-    let first = take_bytes(map, table, edits::no_line(), &buffer[..n], &mut space);
-    let last = take_input(map, table, first, buffer, &mut space);
-    let printed = edits::on_end(map, table, last, &mut space);
-    print_front(&space, printed);
+    let first = take_bytes(map, table, edits::no_line(), &buffer[..n], space);
+    if !first.ok {
+        return false;
+    }
+    let begun = first.line;
+    let last = take_input(map, table, begun, buffer, space);
+    if !last.ok {
+        return false;
+    }
+    let unended = last.line;
+    let printed = edits::on_end(map, table, unended, space);
+    print_front(space, printed)
 }
 
 fn main() {
     let mut input = input_space();
-    let n = io::read_full(STDIN_FILENO, &mut input);
-    let m = report::input::map_end(&input[..n]);
+    let g = gather(&mut input);
+    if g.failed {
+        return;
+    }
+    let m = g.map;
+    let n = g.read;
     let mut table = table_space();
     if !place_all(&input[..m], &mut table) {
         return;
     }
     let mut buffer = input_space();
     let k = bytes::copy(&input[m..n], &mut buffer);
-    edit_all(&mut input[..m], &mut table, &mut buffer, k);
+    let mut space = moves_space();
+    edit_all(&mut input[..m], &mut table, &mut buffer, k, &mut space);
 }

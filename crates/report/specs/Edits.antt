@@ -43,6 +43,19 @@ byteOf frames table line b space =
     cond (eqb b 10) (lineOf frames table line space)
     (record { frames = frames; table = table; line = line ++ (b ∷ []); printed = [] })
 
+-- what is printed stands behind what was printed before
+abbrev pub behind : List ℕ → Session → Session
+behind before s = record { frames = s .frames; table = s .table; line = s .line; printed = before ++ s .printed }
+
+-- bytes, one after the other
+unfoldable pub bytesOf : List ℕ → Session → List ℕ → Session
+bytesOf space s [] = s
+bytesOf space s (b ∷ bs) = bytesOf space (behind (s .printed) (byteOf (s .frames) (s .table) (s .line) b space)) bs
+
+-- nothing is printed yet
+abbrev pub session : List ℕ → List ℕ → List ℕ → Session
+session frames table line = record { frames = frames; table = table; line = line; printed = [] }
+
 -- the input has ended: "an unended last one too"
 unfoldable pub endOf : List ℕ → List ℕ → List ℕ → List ℕ → Session
 endOf frames table [] space = record { frames = frames; table = table; line = []; printed = [] }

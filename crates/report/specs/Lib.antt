@@ -3,4 +3,5 @@ pub mod Input
 pub mod Lines
 pub mod Edits
 pub mod Kept
+pub mod Reads
 pub mod Written

@@ -1,12 +1,12 @@
 // The lines behind the map: "Each later line, an unended last one too, is one edit."
 ghost use mathlib.Core.Path.{_≡_};
 ghost use mathlib.Core.List.{List, [], _∷_, _++_};
-ghost use Prim.Native.Nat.{ℕ, _≤_};
+ghost use Prim.Native.Nat.{ℕ, _<_, _≤_};
 ghost use lib.ListN.{length, take};
-ghost use Rattle.definitions.specs.Edit.{changeOf};
 ghost use Rattle.report.specs.Lines.{refusalLine};
-ghost use Rattle.report.specs.Edits.{isEdit, lineOf, byteOf, endOf};
+ghost use Rattle.report.specs.Edits.{isEdit, lineOf, byteOf, session, bytesOf, endOf};
 ghost use Rattle.report.specs.Kept.{Keeps, Answers, Stands};
+ghost use Rattle.report.specs.Reads.{Lengthens};
 use crate::lines;
 use definitions::Change;
 use frames::edit_frame;
@@ -21,6 +21,18 @@ pub struct Line {
 pub struct Turn {
     pub line: Line,
     pub printed: usize,
+}
+
+// A line with the bytes that were added to it, and how many these are.
+pub struct Added {
+    pub line: Line,
+    pub used: usize,
+}
+
+// A turn, and how many of the bytes read it took.
+pub struct Run {
+    pub turn: Turn,
+    pub used: usize,
 }
 
 // A line that has no byte yet.
@@ -119,6 +131,44 @@ pub fn on_byte(map: &mut [u8], table: &mut [u16], l: Line, b: u8, space: &mut [u
         line: no_line(),
         printed,
     }
+}
+
+// The bytes read are added to the line, up to the first byte 10.
+fn add(l: Line, read: &[u8]) -> Added
+    requires { ⌜ l .count ≤ 15 ⌝ }
+    ensures { λ r. ⌜ (r .line .count ≤ 15) × (r .used ≤ length (now (read .entry))) × Lengthens (take (r .used) (now (read .entry)))
+        × ((xs : List ℕ) → Keeps l xs → Keeps (r .line) (xs ++ take (r .used) (now (read .entry)))) ⌝ }
+{
+    let mut line = l;
+    let mut i: usize = 0;
+    while i < read.len() {
+        if read[i] == 10 {
+            return Added { line, used: i };
+        }
+        line = longer(line, read[i]);
+        i += 1;
+    }
+    Added { line, used: i }
+}
+
+// The bytes read, up to the first line that ends: what it prints is in the space, which the next line needs.
+pub fn on_bytes(map: &mut [u8], table: &mut [u16], l: Line, read: &[u8], space: &mut [u8]) -> Run
+    requires { ⌜ (5 ≤ length (now space)) × (l .count ≤ 15) × (0 < length (now read)) ⌝ }
+    ensures { λ r. ⌜ (r .turn .line .count ≤ 15) × (r .turn .printed ≤ length (now (space .exit))) × (0 < r .used) × (r .used ≤ length (now (read .entry)))
+        × ((xs : List ℕ) → Keeps l xs → Stands (r .turn) (now (map .exit)) (now (table .exit)) (now (space .exit))
+        (bytesOf (now (space .entry)) (session (now (map .entry)) (now (table .entry)) xs) (take (r .used) (now (read .entry))))) ⌝ }
+{
+    let added = add(l, read);
+    let n = added.used;
+    let line = added.line;
+    if n == read.len() {
+        return Run {
+            turn: Turn { line, printed: 0 },
+            used: n,
+        };
+    }
+    let turn = on_byte(map, table, line, read[n], space);
+    Run { turn, used: n + 1 }
 }
 
 // The end of the lines.

@@ -1,6 +1,5 @@
--- `fill::main` is safe: the map is a part of what was read, and that a part of the buffer. Assumes nothing.
+-- `fill::main` is safe: the map is a part of what was read, and that a part of the space. Assumes nothing.
 use mathlib.Core.Path.{sym}
-use native.Mathlib.Omega.{arith}
 use lib.Seq.{length-take-le}
 use borrow.Author.Needs.{needs}
 use Rattle.fill.proofs.main.Statement.{statement}
@@ -9,31 +8,23 @@ use Rattle.fill.proofs.main.Tie as tie
 input-space-requires : tie.Need-input-space-requires
 input-space-requires c κs = search needs
 
-slice-aggregate-read-full : tie.Need-slice-aggregate-read-full
-slice-aggregate-read-full c = search needs
+slice-aggregate-gather : tie.Need-slice-aggregate-gather
+slice-aggregate-gather c = search needs
 
-read-full-requires : tie.Need-read-full-requires
-read-full-requires c κs = search needs
+gather-requires : tie.Need-gather-requires
+gather-requires c κs = search needs
 
-array-share-prefix-input : tie.Need-array-share-prefix-input
-array-share-prefix-input c = search needs
-
-slice-aggregate-map-end : tie.Need-slice-aggregate-map-end
-slice-aggregate-map-end c = search needs
-
-map-end-requires : tie.Need-map-end-requires
-map-end-requires c κs = search needs
+returns : tie.Need-returns
+returns c = search needs
 
 table-space-requires : tie.Need-table-space-requires
 table-space-requires c κs = search needs
 
-array-share-prefix-input-2 : tie.Need-array-share-prefix-input-2
-array-share-prefix-input-2 c = search needs
+array-share-prefix-input : tie.Need-array-share-prefix-input
+array-share-prefix-input c = search needs
 
 slice-aggregate-place-all : tie.Need-slice-aggregate-place-all
-slice-aggregate-place-all c =
-    let r = c .before .before .before .before .before in
-    sym (length-take-le (c .before .before .map-end .result) _ (omega (arith, c .before .before .map-end .ensures .1, r .read-full .ensures .0, r .read-full .ensures .1)))
+slice-aggregate-place-all c = sym (length-take-le _ _ (array-share-prefix-input (c .before)))
 
 slice-aggregate-place-all-2 : tie.Need-slice-aggregate-place-all-2
 slice-aggregate-place-all-2 c = search needs
@@ -41,8 +32,8 @@ slice-aggregate-place-all-2 c = search needs
 place-all-requires : tie.Need-place-all-requires
 place-all-requires c κs = search needs
 
-returns : tie.Need-returns
-returns c = search needs
+returns-2 : tie.Need-returns-2
+returns-2 c = search needs
 
 input-space-requires-2 : tie.Need-input-space-requires-2
 input-space-requires-2 c κs = search needs
@@ -62,14 +53,14 @@ slice-aggregate-copy c = search needs
 copy-requires : tie.Need-copy-requires
 copy-requires c κs = search needs
 
+moves-space-requires : tie.Need-moves-space-requires
+moves-space-requires c κs = search needs
+
 array-borrow-prefix-input : tie.Need-array-borrow-prefix-input
 array-borrow-prefix-input c = search needs
 
 slice-aggregate-edit-all : tie.Need-slice-aggregate-edit-all
-slice-aggregate-edit-all c =
-    let r = c .before .before .before .before .before .before .before .before .before .before .before .before .before .before .before .before in
-    let e = c .before .before .before .before .before .before .before .before .before .before .before .before .before in
-    sym (length-take-le (e .map-end .result) _ (omega (arith, e .map-end .ensures .1, r .read-full .ensures .0, r .read-full .ensures .1)))
+slice-aggregate-edit-all c = sym (length-take-le _ _ (array-borrow-prefix-input (c .before)))
 
 slice-aggregate-edit-all-2 : tie.Need-slice-aggregate-edit-all-2
 slice-aggregate-edit-all-2 c = search needs
@@ -77,37 +68,40 @@ slice-aggregate-edit-all-2 c = search needs
 slice-aggregate-edit-all-3 : tie.Need-slice-aggregate-edit-all-3
 slice-aggregate-edit-all-3 c = search needs
 
+slice-aggregate-edit-all-4 : tie.Need-slice-aggregate-edit-all-4
+slice-aggregate-edit-all-4 c = search needs
+
 edit-all-requires : tie.Need-edit-all-requires
 edit-all-requires c κs = search needs
 
-returns-2 : tie.Need-returns-2
-returns-2 c = search needs
+returns-3 : tie.Need-returns-3
+returns-3 c = search needs
 
 pub main-spec : {M : Type 1} → statement M
 main-spec =
     tie.close
     (tie.spec
     input-space-requires
-    slice-aggregate-read-full
-    read-full-requires
-    array-share-prefix-input
-    slice-aggregate-map-end
-    map-end-requires
+    slice-aggregate-gather
+    gather-requires
+    returns
     table-space-requires
-    array-share-prefix-input-2
+    array-share-prefix-input
     slice-aggregate-place-all
     slice-aggregate-place-all-2
     place-all-requires
-    returns
+    returns-2
     input-space-requires-2
     sub-copy
     part-copy-start
     part-copy-end
     slice-aggregate-copy
     copy-requires
+    moves-space-requires
     array-borrow-prefix-input
     slice-aggregate-edit-all
     slice-aggregate-edit-all-2
     slice-aggregate-edit-all-3
+    slice-aggregate-edit-all-4
     edit-all-requires
-    returns-2)
+    returns-3)

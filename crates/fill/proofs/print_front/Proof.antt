@@ -5,14 +5,14 @@ use borrow.Author.Needs.{needs}
 use Rattle.fill.proofs.print_front.Statement.{statement}
 use Rattle.fill.proofs.print_front.Tie as tie
 
-slice-aggregate-write-all : tie.Need-slice-aggregate-write-all
-slice-aggregate-write-all c = let s = c .before .before in sym (length-take-le (s .args .n) (s .args .space .now) (s .pre))
+slice-aggregate-print : tie.Need-slice-aggregate-print
+slice-aggregate-print c = let s = c .before .before in sym (length-take-le (s .args .n) (s .args .space .now) (s .pre))
 
-write-all-requires : tie.Need-write-all-requires
-write-all-requires c κs = search needs
+print-requires : tie.Need-print-requires
+print-requires c κs = search needs
 
 returns : tie.Need-returns
 returns c = search needs
 
 pub print-front-spec : {M : Type 1} → statement M
-print-front-spec = tie.close (tie.spec slice-aggregate-write-all write-all-requires returns)
+print-front-spec = tie.close (tie.spec slice-aggregate-print print-requires returns)

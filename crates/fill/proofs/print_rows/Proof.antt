@@ -1,6 +1,6 @@
 -- `fill::print_rows` is safe and ends: row g ends within the table, and line keeps its length. Assumes nothing.
 use mathlib.Core.Path.{_≡_, sym, _∙_}
-use Prim.Native.Nat.{_+_, _*_, _-_, _≤_, _<_}
+use Prim.Native.Nat.{_+_, _*_, _-_, _≤_}
 use native.Mathlib.Omega.{arith}
 use native.Mathlib.Nat.{add-sub-cancel-left, mul-le-mul-right}
 use lib.ListN.{length}
@@ -54,6 +54,12 @@ print-row-requires c κs =
     let k = sym (add-sub-cancel-left (w .wide .result * s .args .w) (s .args .w)) ∙ c .before .print-row-arg .given .1 in
     (omega (arith, k, s .pre .2, w .before .before .loop .inv .1), omega (arith, k, s .pre .0))
 
+same-length : tie.Need-same-length Inv-loop μ-loop
+same-length c = search needs
+
+returns : tie.Need-returns Inv-loop μ-loop
+returns c = search needs
+
 add-g : tie.Need-add-g Inv-loop μ-loop
 add-g c = search needs
 
@@ -63,11 +69,11 @@ loop-less c = search needs
 loop-again : tie.Need-loop-again Inv-loop μ-loop
 loop-again c = search needs
 
-same-length : tie.Need-same-length Inv-loop μ-loop
-same-length c = search needs
+same-length-2 : tie.Need-same-length-2 Inv-loop μ-loop
+same-length-2 c = search needs
 
-returns : tie.Need-returns Inv-loop μ-loop
-returns c = search needs
+returns-2 : tie.Need-returns-2 Inv-loop μ-loop
+returns-2 c = search needs
 
 pub print-rows-spec : {M : Type 1} → statement M
 print-rows-spec =
@@ -84,8 +90,10 @@ print-rows-spec =
     part-print-row-start
     part-print-row-end
     print-row-requires
+    same-length
+    returns
     add-g
     loop-less
     loop-again
-    same-length
-    returns)
+    same-length-2
+    returns-2)

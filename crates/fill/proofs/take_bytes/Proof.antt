@@ -1,34 +1,53 @@
--- `fill::take_bytes` is safe and ends: the bytes not yet taken get fewer. Assumes nothing.
-use mathlib.Core.Path.{_≡_}
-use Prim.Native.Nat.{_-_, _≤_}
-use lib.ListN.{length}
+-- `fill::take_bytes` meets its contract. The loop's invariant: map, table and line are what the bytes before `i` led to. Assumes nothing.
+use mathlib.Core.Path.{_≡_, refl, sym, subst}
+use mathlib.Core.Bool.{false≢true}
+use mathlib.Core.List.{List, _++_}
+use Prim.Native.Nat.{ℕ, _+_, _-_, _^_, _<_, _≤_}
+use native.Mathlib.Omega.{arith}
+use lib.ListN.{length, take, drop, length-drop}
+use lib.Seq.{take-all, take-add}
+use Rattle.report.specs.Edits.{session, bytesOf}
+use Rattle.report.specs.Kept.{Keeps}
+use Rattle.report.specs.Reads.{Led, stands-led, led-none, led-more}
 use borrow.Author.Needs.{needs}
 use Rattle.fill.proofs.take_bytes.Statement.{statement}
 use Rattle.fill.proofs.take_bytes.Tie as tie
 
 abbrev Inv-loop : tie.InvT-loop
-Inv-loop map₀ table₀ read space₀ l₀ i₀ map table space l i = (i ≤ length read) × (length map ≡ length map₀) × (length table ≡ length table₀) × (length space ≡ length space₀) × (l .count ≤ 15)
+Inv-loop map₀ table₀ read space₀ l₀ i₀ map table space l i = (i ≤ length read) × (length map ≡ length map₀) × (length table ≡ length table₀) × (length space ≡ length space₀) × (l .count ≤ 15) × ((xs : List ℕ) → Keeps l₀ xs → Led l map table (bytesOf space₀ (session map₀ table₀ xs) (take i read)))
 
 abbrev μ-loop : tie.MeasureT-loop
 μ-loop map₀ table₀ read space₀ l₀ i₀ map table space l i = length read - i
 
+fits : (s : tie.Start Inv-loop μ-loop) → length (s .args .read .now) < 2 ^ 64
+fits s = search (needs, s .good)
+
+-- what was taken lies in the bytes read
+within : (c : tie.After-on-bytes Inv-loop μ-loop)
+    → c .before .before .before .before .before .before .loop .i + c .on-bytes .result .used ≤ length (c .before .before .before .before .before .before .before .before .before .before .before .args .read .now)
+within c =
+    let l = c .before .before .before .before .before .before in
+    omega (arith, c .on-bytes .ensures .3, c .before .before .on-bytes-arg3 .given .1, l .loop .inv .0)
+
 loop-holds : tie.Need-loop-holds Inv-loop μ-loop
-loop-holds c = search needs
+loop-holds c =
+    let s = c .before .before .before .before in
+    (omega arith, refl, refl, refl, s .pre .1, led-none (s .args .line) (s .args .map .now) (s .args .table .now) (s .args .space .now))
 
-shared-slice-read-take-byte : tie.Need-shared-slice-read-take-byte Inv-loop μ-loop
-shared-slice-read-take-byte c = search needs
+sub-on-bytes : tie.Need-sub-on-bytes Inv-loop μ-loop
+sub-on-bytes c = search needs
 
-take-byte-requires : tie.Need-take-byte-requires Inv-loop μ-loop
-take-byte-requires c κs = search needs
+part-on-bytes-start : tie.Need-part-on-bytes-start Inv-loop μ-loop
+part-on-bytes-start c = search needs
 
-add-i : tie.Need-add-i Inv-loop μ-loop
-add-i c = search needs
+part-on-bytes-end : tie.Need-part-on-bytes-end Inv-loop μ-loop
+part-on-bytes-end c = search needs
 
-loop-less : tie.Need-loop-less Inv-loop μ-loop
-loop-less c = search needs
+on-bytes-requires : tie.Need-on-bytes-requires Inv-loop μ-loop
+on-bytes-requires c κs = search needs
 
-loop-again : tie.Need-loop-again Inv-loop μ-loop
-loop-again c = search needs
+print-front-requires : tie.Need-print-front-requires Inv-loop μ-loop
+print-front-requires c κs = search needs
 
 same-length : tie.Need-same-length Inv-loop μ-loop
 same-length c = search needs
@@ -40,7 +59,56 @@ same-length-3 : tie.Need-same-length-3 Inv-loop μ-loop
 same-length-3 c = search needs
 
 returns : tie.Need-returns Inv-loop μ-loop
-returns c = search needs
+returns c = (c .before .before .before .before .before .before .before .before .before .before .before .on-bytes .ensures .0, λ xs k e. absurd (false≢true e))
+
+add-i : tie.Need-add-i Inv-loop μ-loop
+add-i c = let q = within (c .before .before .before .before .before .before .before .before .before .before .before .before) in omega (arith, q, fits (c .before .before .before .before .before .before .before .before .before .before .before .before .before .before .before .before .before .before .before .before .before .before .before))
+
+loop-less : tie.Need-loop-less Inv-loop μ-loop
+loop-less c = search needs
+
+loop-again : tie.Need-loop-again Inv-loop μ-loop
+loop-again c =
+    let b = c .before .before .before .before .before .before .before .before .before .before .before .before in
+    let l = b .before .before .before .before .before .before in
+    let s = l .before .before .before .before .before in
+    let read = s .args .read .now in
+    let i = l .loop .i in
+    let e = b .on-bytes .ensures in
+    let n = b .on-bytes .result .used in
+    let rest : take (length read - i) (drop i read) ≡ drop i read = take-all (length read - i) (drop i read) (omega (arith, length-drop i read)) in
+    let both : take i read ++ take n (take (length read - i) (drop i read)) ≡ take (i + n) read = rw rest (sym (take-add i n read)) in
+    let map = b .on-bytes .last .0 in
+    let table = b .on-bytes .last .1 .0 in
+    let space = b .on-bytes .last .1 .1 .1 .1 .0 in
+    let turn = b .on-bytes .result .turn in (
+      within b,
+      search needs,
+      search needs,
+      search needs,
+      e .0,
+      λ xs k.
+          let z = session (s .args .map .now) (s .args .table .now) xs in
+          subst (λ (ys : List ℕ). Led (turn .line) map table (bytesOf (s .args .space .now) z ys)) both
+          (led-more (s .args .space .now) (l .loop .space) (l .loop .inv .3) z (take i read) (take n (take (length read - i) (drop i read))) (l .loop .l) (turn .line) (l .loop .map) (l .loop .table) map table (l .loop .inv .5 xs k)
+          (stands-led turn map table space _ (e .4 _ (l .loop .inv .5 xs k .line)))),
+    )
+
+same-length-4 : tie.Need-same-length-4 Inv-loop μ-loop
+same-length-4 c = search needs
+
+same-length-5 : tie.Need-same-length-5 Inv-loop μ-loop
+same-length-5 c = search needs
+
+same-length-6 : tie.Need-same-length-6 Inv-loop μ-loop
+same-length-6 c = search needs
+
+returns-2 : tie.Need-returns-2 Inv-loop μ-loop
+returns-2 c =
+    let l = c .before in
+    let s = l .before .before .before .before .before in
+    let v = l .loop .inv in
+    (v .4, λ xs k e. subst (λ (z : List ℕ). Led (l .loop .l) (l .loop .map) (l .loop .table) (bytesOf (s .args .space .now) (session (s .args .map .now) (s .args .table .now) xs) z)) (take-all (l .loop .i) (s .args .read .now) (omega arith)) (v .5 xs k))
 
 pub take-bytes-spec : {M : Type 1} → statement M
 take-bytes-spec =
@@ -49,12 +117,19 @@ take-bytes-spec =
     Inv-loop
     μ-loop
     loop-holds
-    shared-slice-read-take-byte
-    take-byte-requires
-    add-i
-    loop-less
-    loop-again
+    sub-on-bytes
+    part-on-bytes-start
+    part-on-bytes-end
+    on-bytes-requires
+    print-front-requires
     same-length
     same-length-2
     same-length-3
-    returns)
+    returns
+    add-i
+    loop-less
+    loop-again
+    same-length-4
+    same-length-5
+    same-length-6
+    returns-2)
