@@ -194,7 +194,8 @@ fn take_bytes(map: &mut [u8], table: &mut [u16], line: Line, read: &[u8], space:
     Taken { line: l, ok: true }
 }
 
-// Reads on to the input's end: some bytes bs, cut as the system gives them. The turns are counted down as in `system`.
+// Reads on to the input's end. The contract says that some bytes bs lead there; that they are those read, no contract can say. The turns are
+// counted down as in `system`.
 fn take_input(
     map: &mut [u8],
     table: &mut [u16],
@@ -228,7 +229,7 @@ fn take_input(
 }
 
 // "Each later line, an unended last one too, is one edit." The first n bytes of the buffer are those that were read behind the map; some
-// bytes bs follow them, and the end of the input. It answers whether all went well.
+// bytes bs follow them, as in `take_input`, and the end of the input. It answers whether all went well.
 fn edit_all(
     map: &mut [u8],
     table: &mut [u16],
