@@ -3,8 +3,8 @@
  *
  * usage: against MAP ROUNDS
  *
- * A line for each call: its name, and the nanoseconds of the build before and of this one, best of all rounds. The exports of the build before
- * have been renamed from bench_ to before_ (bench/against).
+ * A line for each call: its name, and the nanoseconds of the build before and of this one, best of all rounds; no line where the build before
+ * refuses the map and this one does not. The exports of the build before have been renamed from bench_ to before_ (bench/against).
  */
 #define _POSIX_C_SOURCE 200809L
 #include <stdint.h>
@@ -99,6 +99,8 @@ int main(int argc, char **argv) {
     fclose(f);
     memcpy(map[1], map[0], len);
     int rounds = atoi(argv[2]);
+    if (load(0, NULL) != 0 && load(1, NULL) == 0)
+        return 0;
     measure("load", load, 50 * rounds, NULL);
     measure("fill", fill, rounds, NULL);
     /* the first drive of group 0 fails and comes back, then loses half of its weight and has it again */

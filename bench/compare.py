@@ -14,7 +14,9 @@ def main():
     rows = [["before / now", "load", "fill", "edit 21", "edit 22"]]
     for name, title, text in maps.COMPARED:
         got = measure.run(folder, ["against"], name, text(), rounds)
-        rows.append([title] + [f"{got[call][0] / got[call][1]:.2f}" for call in ("load", "fill", "acceptance", "weight")])
+        calls = ("load", "fill", "acceptance", "weight")
+        # a map that the build before refuses has no ratios
+        rows.append([title] + [f"{got[call][0] / got[call][1]:.2f}" if got else "-" for call in calls])
     measure.print_table(rows)
 
 

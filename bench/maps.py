@@ -1,7 +1,7 @@
 """Maps for the benchmark: sites, cabinets and drives under one root, with a rule that puts copies on different sites."""
 import pathlib
 
-TAKE, INDEPENDENT, EMIT = 1, 3, 4
+TAKE, INDEPENDENT, EMIT, THROUGH = 1, 3, 4, 5
 FULL = 65536
 BASE = 65536  # a bucket's item number is this and its own number
 
@@ -18,8 +18,9 @@ def text_of(groups, devices, buckets, links, steps):
     return "".join(line + "\n" for line in lines)
 
 
-def tree(groups, counts, weight=lambda n: 4096, acceptance=lambda n: FULL, copies=3):
-    """Buckets in buckets, so many in each by level, at the last level drives; the copies lie in different buckets below the root."""
+def tree(groups, counts, weight=lambda n: 4096, acceptance=lambda n: FULL, copies=3, through=False):
+    """Buckets in buckets, so many in each by level, at the last level drives; the copies lie in different buckets below the root, or with
+    through in different buckets of drives."""
     devices, buckets, links = [], [], []
 
     def bucket(level):
@@ -35,8 +36,8 @@ def tree(groups, counts, weight=lambda n: 4096, acceptance=lambda n: FULL, copie
         return number
 
     bucket(0)
-    steps = [(TAKE, 0, 0, 0), (INDEPENDENT, copies, len(counts) - 1, 0), (INDEPENDENT, 1, 0, 0), (EMIT, 0, 0, 0)]
-    return text_of(groups, devices, buckets, links, steps)
+    selects = [(THROUGH, copies, 1, 0)] if through else [(INDEPENDENT, copies, len(counts) - 1, 0), (INDEPENDENT, 1, 0, 0)]
+    return text_of(groups, devices, buckets, links, [(TAKE, 0, 0, 0), *selects, (EMIT, 0, 0, 0)])
 
 
 def mixed(n):
@@ -49,6 +50,11 @@ def half(n):
     return FULL if n % 2 == 0 else 0
 
 
+def dead(n):
+    """Of every sixteen cabinets of sixteen drives the last takes nothing."""
+    return 0 if n // 16 % 16 == 15 else FULL
+
+
 ARCHIVE = pathlib.Path(__file__).resolve().parent.parent / "examples" / "archive.map"
 
 # the maps of the table: 1,024 drives each, and the example archive of 224
@@ -57,6 +63,8 @@ COMPARED = [
     ("mixed", "4 x 16 x 16, mixed weights", lambda: tree(1024, (4, 16, 16), weight=mixed)),
     ("wide", "16 x 64, buckets of 64", lambda: tree(1024, (16, 64))),
     ("half", "4 x 16 x 16, half at acceptance 0", lambda: tree(1024, (4, 16, 16), acceptance=half)),
+    ("through", "4 x 16 x 16, through 3 cabinets", lambda: tree(1024, (4, 16, 16), through=True)),
+    ("dead", "the same, 4 of the 64 cabinets dead", lambda: tree(1024, (4, 16, 16), acceptance=dead, through=True)),
     ("archive", "examples/archive.map", ARCHIVE.read_text),
 ]
 

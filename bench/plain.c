@@ -1,11 +1,11 @@
-/* Document 01 in plain C, sentence by sentence: what the engine is measured against. */
+/* Document 01, with select through of document 02, in plain C, sentence by sentence: what the engine is measured against. */
 #include "plain.h"
 
 #include <stdlib.h>
 #include <string.h>
 
 enum { DEVICES = 1024, BUCKETS = 256, BASE = 65536, CHILDREN = 64, STEPS = 16, PLACES = 32, HOLE = 0xffff, TRIES = 50, MOVE = 23 };
-enum { TAKE = 1, FIRST_N = 2, INDEPENDENT = 3, EMIT = 4 };
+enum { TAKE = 1, FIRST_N = 2, INDEPENDENT = 3, EMIT = 4, THROUGH = 5 };
 
 struct step {
     uint32_t step, count, type, bucket;
@@ -106,6 +106,7 @@ static int step_ranged(const struct step *s) {
         return s->count == 0 && s->type == 0 && s->bucket < BUCKETS;
     case FIRST_N:
     case INDEPENDENT:
+    case THROUGH:
         return s->count >= 1 && s->count <= 16 && s->type <= 254 && s->bucket == 0;
     case EMIT:
         return s->count == 0 && s->type == 0 && s->bucket == 0;
@@ -233,10 +234,18 @@ static int in_blocks(const struct map *m, uint32_t steps) {
         } else {
             if (!inside || s->type >= type)
                 return 0;
-            type = s->type;
+            type = s->step == THROUGH ? 0 : s->type; /* it puts out devices */
         }
     }
     return !inside;
+}
+
+/* Question 21. */
+static int through_typed(const struct map *m, uint32_t steps) {
+    for (uint32_t i = 0; i < steps; i++)
+        if (m->rule[i].step == THROUGH && m->rule[i].type == 0)
+            return 0;
+    return 1;
 }
 
 /* W, or 0 where a block or the sum is too wide. */
@@ -329,6 +338,8 @@ static uint32_t read_map(struct map *m, const uint8_t *text, size_t len) {
         return number;
     if (!in_blocks(m, steps))
         return 11;
+    if (!through_typed(m, steps))
+        return 21;
     m->steps = steps;
     m->width = width_of(m);
     if (m->width == 0)
@@ -436,20 +447,42 @@ static int holds(const uint32_t *list, uint32_t n, uint32_t item) {
 
 static int accepts(const struct map *m, uint32_t x, uint32_t item) { return item >= BASE || hash2(x, item) % 65536 < m->acceptance[item]; }
 
+/* "an independent inner walk looks for one device beneath it": the device, or HOLE; r is the r' that drew the item. */
+static uint32_t find_beneath(const struct map *m, uint32_t x, uint32_t count, uint32_t item, uint32_t r, uint32_t *tries) {
+    for (uint32_t failures = 0; failures < TRIES; failures++) {
+        int64_t at = item;
+        while (at >= BASE)
+            at = draw(&m->buckets[at - BASE], x, r + failures * count);
+        *tries += 1;
+        if (at >= 0 && accepts(m, x, (uint32_t)at))
+            return (uint32_t)at;
+    }
+    return HOLE;
+}
+
+/* What the select puts out for an item that it does not hold, or HOLE where the test fails. */
+static uint32_t tested(const struct map *m, uint32_t x, const struct step *s, uint32_t item, uint32_t r, uint32_t *tries) {
+    if (s->step == THROUGH)
+        return find_beneath(m, x, s->count, item, r, tries);
+    return accepts(m, x, item) ? item : HOLE;
+}
+
 /* Runs a select over the working list and leaves what it puts out there. */
 static uint32_t select_items(const struct map *m, uint32_t x, const struct step *s, uint32_t *list, uint32_t count, uint32_t *tries) {
-    uint32_t out[PLACES], n = 0;
+    uint32_t items[PLACES], out[PLACES], n = 0; /* what it holds, and what it puts out */
     for (uint32_t i = 0; i < count; i++) {
         uint32_t f = 0, start = list[i];
         if (start == HOLE) {
-            for (uint32_t k = 0; k < s->count && s->step == INDEPENDENT; k++)
+            for (uint32_t k = 0; k < s->count && s->step != FIRST_N; k++) {
+                items[n] = HOLE;
                 out[n++] = HOLE;
+            }
             continue;
         }
         for (uint32_t r = 1; r <= s->count; r++) {
             uint32_t fr = 0, at = start;
             for (;;) {
-                uint32_t attempt = s->step == INDEPENDENT ? r + fr * s->count : r + f;
+                uint32_t attempt = s->step == FIRST_N ? r + f : r + fr * s->count;
                 int held = 0;
                 int64_t item = draw(&m->buckets[at - BASE], x, attempt);
                 while (item >= 0 && type_of(m, (uint32_t)item) > s->type) {
@@ -457,10 +490,12 @@ static uint32_t select_items(const struct map *m, uint32_t x, const struct step 
                     item = draw(&m->buckets[at - BASE], x, attempt);
                 }
                 if (item >= 0 && type_of(m, (uint32_t)item) == s->type) {
-                    held = holds(out, n, (uint32_t)item);
-                    if (!held && accepts(m, x, (uint32_t)item)) {
+                    held = holds(items, n, (uint32_t)item);
+                    uint32_t found = held ? HOLE : tested(m, x, s, (uint32_t)item, attempt, tries);
+                    if (found != HOLE) {
                         *tries += 1;
-                        out[n++] = (uint32_t)item;
+                        items[n] = (uint32_t)item;
+                        out[n++] = found;
                         break;
                     }
                 }
@@ -468,8 +503,10 @@ static uint32_t select_items(const struct map *m, uint32_t x, const struct step 
                 f++;
                 *tries += 1;
                 if (fr == TRIES) {
-                    if (s->step == INDEPENDENT)
+                    if (s->step != FIRST_N) {
+                        items[n] = HOLE;
                         out[n++] = HOLE;
+                    }
                     break;
                 }
                 if (!held || fr >= 3)

@@ -46,7 +46,9 @@ struct crush_placing {
  *    8  Is no item a child twice?
  *    9  Is each child's type below its bucket's?
  *   10  Has each bucket at most 64 children?
- *   11  Has the rule 1 to 16 steps, in blocks of take, selects and emit, with types that strictly fall from the bucket taken to 0?
+ *   11  Has the rule 1 to 16 steps, in blocks of take, selects and emit, with types that strictly fall from the bucket taken to 0, or to a
+ *       step 5 (select through), behind which its block has no further select?
+ *   21  Has no step 5 type 0? (It is put here, right after 11.)
  *   12  Is the list at most 16 places wide in a block and 32 in all?
  *   13  Do the drives weigh at most 67,107,840 in all? (No map that comes so far weighs more.)
  *   15  Is the group below the map's number of groups?

@@ -1,8 +1,9 @@
 #!/usr/bin/env python3
 """Compares program `fill` with a CRUSH by another hand on random maps and edits, good, damaged and at the edges, output by output.
 
-compare_fill.py --oracle DIR [--maps N] [--first SEED] [--kinds KIND ..]: DIR holds that CRUSH as fill.py and gen.py; N seeds of each kind of
-input. What is counted are the answers wanted: rows, moves by their cause, refusals. `rt check fill` makes the program."""
+compare_fill.py --oracle DIR [--level L] [--maps N] [--first SEED] [--kinds KIND ..] [--program FILE]: DIR holds that CRUSH as fill.py and
+gen.py; L is the last change of document 02 that counts; N seeds of each kind of input. What is counted are the answers wanted: rows, moves by
+their cause, refusals. `rt check fill` makes the program."""
 import argparse
 import collections
 import pathlib
@@ -27,28 +28,31 @@ def name_of(line):
 def main():
     parser = argparse.ArgumentParser(description=__doc__)
     parser.add_argument("--oracle", type=pathlib.Path, required=True)
+    parser.add_argument("--level", type=int, default=1)
     parser.add_argument("--maps", type=int, default=100)
     parser.add_argument("--first", type=int, default=0)
     parser.add_argument("--kinds", nargs="+", choices=KINDS, default=KINDS)
+    parser.add_argument("--program", type=pathlib.Path, default=PROGRAM)
     options = parser.parse_args()
     sys.path.insert(0, str(options.oracle))
     import fill as reference
 
     answers = collections.Counter()
-    inputs = edited = wrong = 0
+    inputs = edited = through = wrong = 0
     for kind in options.kinds:
         for seed in range(options.first, options.first + options.maps):
-            given = output_of([sys.executable, options.oracle / "gen.py", str(seed), kind])
-            want = reference.emulate(given)
-            got = output_of([PROGRAM], given)
+            given = output_of([sys.executable, options.oracle / "gen.py", str(seed), kind, "--level", str(options.level)])
+            want = reference.emulate(given, options.level)
+            got = output_of([options.program], given)
             inputs += 1
+            through += any(line.startswith(b"0405") for line in given.splitlines())
             if got != want:
                 wrong += 1
                 print(f"{kind} {seed}: {got[:60]!r} for {want[:60]!r}")
             if want.startswith(b"11") and reference.split_input(given)[1]:
                 edited += 1
             answers.update(name_of(line) for line in want.splitlines())
-    print(f"{inputs} inputs, {edited} of them filled and edited, {wrong} wrong; wanted {dict(sorted(answers.items()))}")
+    print(f"{inputs} inputs, {through} of them with a step 5, {edited} filled and edited, {wrong} wrong; wanted {dict(sorted(answers.items()))}")
     return 1 if wrong else 0
 
 

@@ -1,9 +1,9 @@
 #!/usr/bin/env python3
 """Evaluates the definitions (crates/definitions) against a CRUSH in Python by another hand.
 
-usage: evaluate_definitions.py --oracle DIR [--seed N] [--maps N] [--edits N] [--damaged N] [--walks N]
-                [--leaves N] [--ties N] [--keys N] [--per N]
-                [--crate DIR] [--keep] [--wrong] [--verbose]
+usage: evaluate_definitions.py --oracle DIR [--level L] [--seed N] [--maps N] [--edits N] [--damaged N] [--walks N]
+                [--leaves N] [--ties N] [--through N] [--keys N] [--per N]
+                [--crate DIR] [--keep] [--wrong] [--verbose] [--giving-up]
 
 DIR holds the reference: crush.py, fill.py and gen.py.
 
@@ -20,6 +20,12 @@ them, in a scratch repository outside this one.  Prints how many held.
   --damaged  damaged maps, and maps at a limit: load's number
   --ties     maps made for equal keys, and for keys one step apart: one group
   --walks    maps of which each place's whole walk (draws and tests) is compared
+  --through  maps with a step 5, every other of them with an inner walk that
+             finds none: load, placing and walk of a group, an edit, the fill;
+             with each three rules with a step 5, good or bad: load's number
+  --giving-up  besides, two placings: one live drive in one cabinet, 2 tries;
+             one dead drive, 2,550 tries, in fifty equations of a turn each
+  --level    the last change of document 02 that counts
   --keys     most straw keys (and tests of acceptance, at 0.6) one theorem may
              need: a theorem may take 50 million steps, and a key takes some
              65,000
@@ -42,14 +48,15 @@ CRATE = os.path.join(HERE, '..', 'crates', 'definitions')
 
 ap = argparse.ArgumentParser()
 for name, value in (('seed', 1), ('maps', 4), ('edits', 2), ('damaged', 6),
-                    ('walks', 1), ('leaves', 5), ('ties', 0), ('keys', 500),
-                    ('per', 60)):
+                    ('walks', 1), ('leaves', 5), ('ties', 0), ('through', 4),
+                    ('keys', 500), ('per', 60), ('level', 1)):
     ap.add_argument('--' + name, type=int, default=value)
 ap.add_argument('--oracle', required=True)
 ap.add_argument('--crate', default=CRATE)
 ap.add_argument('--keep', action='store_true')
 ap.add_argument('--wrong', action='store_true')
 ap.add_argument('--verbose', action='store_true')
+ap.add_argument('--giving-up', action='store_true')
 ARGS = ap.parse_args()
 CRATE = os.path.abspath(ARGS.crate)
 
@@ -58,14 +65,23 @@ import crush  # noqa: E402
 import fill   # noqa: E402
 import gen    # noqa: E402
 
+gen.Doc.level = ARGS.level
+
+
+def loaded(data):
+    return crush.load(data, ARGS.level)
+
 
 # ------------------------------------------------------------ antt text
 
-def header():
+# what the names of a definition begin with
+OF = 'Rattle.definitions.specs.'
+
+
+def header(more=''):
     """What stands above the theorems, and the line under each signature."""
-    of = 'Rattle.definitions.specs.'
     return """-- Written by evaluate_definitions.py.
-use mathlib.Core.Path.{_≡_, refl}
+use mathlib.Core.Path.{_≡_, refl, _∙_}
 use mathlib.Core.List.{List, [], _∷_, map}
 use Prim.Native.Nat.{ℕ, zero, suc, _+_, _*_, _/_, _%%_}
 use lib.ListN.{replicate}
@@ -82,7 +98,7 @@ use %(of)sSelect.{Place}
 use %(of)sRule.{placedOf}
 use %(of)sCalls.{loadOf, placeOf, daemonOf, fillOf, editOf, writeOf, dayOf}
 use %(of)sOpen.{computing}
-
+%(more)s
 -- the k bytes that a number spells, highest first
 bytesTo : ℕ → ℕ → List ℕ → List ℕ
 bytesTo zero n acc = acc
@@ -101,7 +117,7 @@ verdictCode Passed = 3
 eventCode : Event → ℕ
 eventCode (Drew b r d) = ((drawnCode d * 1000000 + r) * 1000 + b) * 10
 eventCode (Tested i v) = i * 10 + verdictCode v
-""" % {'of': of}, 'unfolding computing bytesTo drawnCode verdictCode eventCode'
+""" % {'of': OF, 'more': more}, 'unfolding computing bytesTo drawnCode verdictCode eventCode'
 
 
 def open_names():
@@ -133,15 +149,23 @@ def numbers(ns):
 
 class Theorems:
     def __init__(self):
-        self.items = []                      # (name, kind, keys, text)
+        self.items = []                      # (name, kind, keys, text, map)
 
-    def add(self, kind, what, left, right, keys=0):
+    def add(self, kind, what, left, right, keys=0, mp=None, dead=0):
+        """mp is the map that the equation is of, dead how many inner walks
+        find none in it."""
         name = 't%d' % len(self.items)
         if ARGS.wrong:
             right = spoil(right)
+        of_map = 'other' if mp is None or not goes_through(mp) else \
+            'step 5, none found' if dead else 'step 5'
         self.items.append((name, kind, keys,
                            '-- %s: %s\n%s : %s ≡ %s' % (kind, what, name, left,
-                                                       right)))
+                                                       right), of_map))
+
+
+def goes_through(mp):
+    return any(s[0] == crush.THROUGH for s in mp.steps)
 
 
 def spoil(right):
@@ -169,8 +193,8 @@ def small_doc(seed, indep=None):
         return rng, d
 
 
-ACCEPTS = [0]
-plain_accepts = crush.accepts
+ACCEPTS, DEAD = [0], [0]
+plain_accepts, plain_inner_walk = crush.accepts, crush.inner_walk
 
 
 def counting_accepts(mp, x, device):
@@ -178,20 +202,32 @@ def counting_accepts(mp, x, device):
     return plain_accepts(mp, x, device)
 
 
+def counting_inner_walk(*arguments):
+    found = plain_inner_walk(*arguments)
+    DEAD[0] += found[0] is None
+    return found
+
+
 crush.accepts = counting_accepts
+crush.inner_walk = counting_inner_walk
+crush.inner_draw = crush.draw          # the definitions remember no draw
 
 
 def keys_of(run):
-    """The value of run(), and what its evaluation costs, in straw keys."""
+    """The value of run(), what its evaluation costs, in straw keys, and how
+    many inner walks in it find none."""
     crush.cost.cache_clear()
-    ACCEPTS[0] = 0
+    ACCEPTS[0] = DEAD[0] = 0
     value = run()
     info = crush.cost.cache_info()
-    return value, info.hits + info.misses + ACCEPTS[0] * 6 // 10
+    return value, info.hits + info.misses + ACCEPTS[0] * 6 // 10, DEAD[0]
 
 
-def runs_cost(mp):
-    return sum(keys_of(lambda g=g: crush.rule(mp, g))[1] for g in range(mp.G))
+def runs_cost(*maps):
+    """The same for all groups of these maps, without the value."""
+    costs = [keys_of(lambda: crush.rule(mp, g))[1:]
+             for mp in maps for g in range(mp.G)]
+    return tuple(map(sum, zip(*costs)))
 
 
 STATS = {}
@@ -220,6 +256,15 @@ def leaves(ths, count):
         ths.add('leaf', 'key', 'key %d %d' % (c, k), str(crush.key(c, k)))
 
 
+def place_theorem(ths, kind, what, mp, g, places, tries, keys, dead, extra=0):
+    """Group g placed, with so many places more lent than needed."""
+    ths.add(kind, '%s group %d, %d keys' % (what, g, keys),
+            'placeOf %s %d (replicate %d 7)' % (text(crush.map_bytes(mp)), g,
+                                                mp.W + extra),
+            'record { number = 0; places = %d; tries = %d; row = %s }'
+            % (mp.W, tries, numbers(places + [7] * extra)), keys, mp, dead)
+
+
 def valid_maps(ths, count):
     seed, done = ARGS.seed * 100000, 0
     tries = groups = holes = 0
@@ -228,41 +273,39 @@ def valid_maps(ths, count):
         seed += 1
         rng, d = small_doc(seed)
         data = d.bytes()
-        mp = crush.load(data)
+        mp = loaded(data)
         assert not isinstance(mp, int), mp
         crush.STATS.clear()
         runs = [keys_of(lambda g=g: crush.rule(mp, g)) for g in range(mp.G)]
-        if any(k > ARGS.keys for _, k in runs):
+        if any(k > ARGS.keys for _, k, _ in runs):
             continue
         note_stats()
         done += 1
         w = mp.W
         b = text(data)
-        ths.add('load', 'seed %d' % seed, 'loadOf %s' % b, '0')
+        ths.add('load', 'seed %d' % seed, 'loadOf %s' % b, '0', 0, mp)
         ths.add('write', 'seed %d' % seed,
                 'writeOf %s (replicate %d 7)' % (b, len(data) + 1),
                 'record { number = 0; bytes = %d; space = %s }'
-                % (len(data), text(data + b'\7')))
+                % (len(data), text(data + b'\7')), 0, mp)
         show, day = rng.randrange(2 ** 32), rng.randrange(2 ** 32)
         ths.add('day', 'seed %d' % seed, 'dayOf %s %d %d' % (b, show, day),
                 'record { number = 0; group = %d }'
                 % crush.day_group(mp, show, day))
         extra = rng.choice([0, 0, 1, 3])
-        for g, ((places, tr), k) in enumerate(runs):
+        for g, ((places, tr), k, dead) in enumerate(runs):
             groups += 1
             tries += tr
             holes += places.count(65535)
-            ths.add('place', 'seed %d group %d, %d keys' % (seed, g, k),
-                    'placeOf %s %d (replicate %d 7)' % (b, g, w + extra),
-                    'record { number = 0; places = %d; tries = %d; row = %s }'
-                    % (w, tr, numbers(places + [7] * extra)), k)
+            place_theorem(ths, 'place', 'seed %d' % seed, mp, g, places, tr, k,
+                          dead, extra)
         g = rng.randrange(mp.G)
         space = bytearray(b'\7' * (2 * w + extra))
-        number, n, tr = crush.place(data, g, space)
+        number, n, tr = crush.place(data, g, space, ARGS.level)
         ths.add('daemon', 'seed %d group %d' % (seed, g),
                 'daemonOf %s %d (replicate %d 7)' % (b, g, 2 * w + extra),
                 'record { number = %d; places = %d; tries = %d; out = %s }'
-                % (number, n, tr, text(space)), runs[g][1])
+                % (number, n, tr, text(space)), runs[g][1], mp, runs[g][2])
         ths.add('refusal', 'seed %d no such group' % seed,
                 'placeOf %s %d (replicate %d 7)' % (b, mp.G, w),
                 'record { number = 15; places = 0; tries = 0; row = %s }'
@@ -277,26 +320,36 @@ def valid_maps(ths, count):
                                            for c in sorted(STATS.items())))
 
 
-def edit_theorem(ths, what, mp, table, frame, space, keys, data=None):
-    data = crush.map_bytes(mp) if data is None else data
+def edit_theorem(ths, what, mp, table, frame, space, keys, dead):
     res = crush.edit(mp, table, frame, space)
     moved = res.bytes()
     lent = b'\7' * space
     ths.add('edit', '%s, %d keys' % (what, keys),
-            'editOf %s %s %s %s' % (text(data), numbers(table), text(frame),
-                                    text(lent)),
+            'editOf %s %s %s %s' % (text(crush.map_bytes(mp)), numbers(table),
+                                    text(frame), text(lent)),
             'record { number = %d; moves = %d; frames = %s; table = %s; '
             'space = %s }' % (res.number, res.count(),
                               text(crush.map_bytes(res.map)),
                               numbers(res.table),
-                              text(moved + lent[len(moved):])), keys)
+                              text(moved + lent[len(moved):])), keys, mp,
+            dead if res.number in (0, 20) else 0)
     return res
+
+
+def fill_theorem(ths, what, mp, extra=2):
+    fresh = crush.fresh_fill(mp)
+    keys, dead = runs_cost(mp)
+    ths.add('fill', what,
+            'fillOf %s (replicate %d 7)' % (text(crush.map_bytes(mp)),
+                                            len(fresh) + extra),
+            'record { number = 0; places = %d; table = %s }'
+            % (len(fresh), numbers(fresh + [7] * extra)), keys, mp, dead)
 
 
 def good_edits(rng, d, count):
     """Edits that are mostly good and mostly of a device that is placed."""
     gen.add_edits(rng, d, count)
-    mp = crush.load(b''.join(l + b'\n' for l in d.lines()))
+    mp = loaded(b''.join(l + b'\n' for l in d.lines()))
     held = [p for p in crush.fresh_fill(mp) if p != crush.HOLE]
     for i in range(len(d.edits)):
         if held and rng.random() < 0.6:
@@ -345,11 +398,11 @@ def edit_maps(ths, count):
         for line in d.edits:
             size = rng.choice([0, 23, 46, 230, 2300, 2300, 2300])
             res = crush.edit(now, tab, line, size)
-            k = runs_cost(now) + runs_cost(edited(now, line))
-            plan.append((now, tab, line, size, k))
+            k, dead = runs_cost(now, edited(now, line))
+            plan.append((now, tab, line, size, k, dead))
             met |= {mv[4] for mv in res.moves}
             now, tab = res.map, res.table
-        if any(k > ARGS.keys for *_, k in plan):
+        if any(k > ARGS.keys for *_, k, _ in plan):
             continue
         # every other list has a move with cause 03, most of the others a move
         if done % 2 == 0 and '03' not in met:
@@ -357,38 +410,32 @@ def edit_maps(ths, count):
         if not met and rng.random() < 0.8:
             continue
         done += 1
-        for i, (m, t, line, size, k) in enumerate(plan):
+        for i, (m, t, line, size, k, dead) in enumerate(plan):
             counted(edit_theorem(ths, 'seed %d edit %d' % (seed, i), m, t, line,
-                                 size, k))
-        m, t, line, size, k = plan[0]
+                                 size, k, dead))
+        m, t, line, size, k, dead = plan[0]
         counted(edit_theorem(ths, 'seed %d table too short' % seed, m,
-                             t[:m.G * m.W - 1], line, size, k))
+                             t[:m.G * m.W - 1], line, size, k, dead))
         bad = list(t)
         i = rng.randrange(m.G * m.W)
         bad[i] = rng.choice([65535, 0, bad[i] ^ 1])
         counted(edit_theorem(ths, 'seed %d table altered' % seed, m, bad, line,
-                             size, k))
+                             size, k, dead))
         good_one = crush.edit(m, t, line, 65536)
         if good_one.moves:
             counted(edit_theorem(ths, 'seed %d space short by one' % seed, m, t,
-                                 line, 23 * good_one.count() - 1, k))
+                                 line, 23 * good_one.count() - 1, k, dead))
             counted(edit_theorem(ths, 'seed %d space just enough' % seed, m, t,
-                                 line, 23 * good_one.count(), k))
-        fresh = crush.fresh_fill(m)
-        ths.add('fill', 'seed %d' % seed,
-                'fillOf %s (replicate %d 7)' % (text(crush.map_bytes(m)),
-                                                len(fresh) + 2),
-                'record { number = 0; places = %d; table = %s }'
-                % (len(fresh), numbers(fresh + [7, 7])), runs_cost(m))
+                                 line, 23 * good_one.count(), k, dead))
+        fill_theorem(ths, 'seed %d' % seed, m)
     # first-n maps: 17
     for seed in range(ARGS.seed * 100000, ARGS.seed * 100000 + (count + 3) // 4):
         rng, d = small_doc(seed, False)
         d.G = 1
         gen.add_edits(rng, d, 1)
-        mp = crush.load(b''.join(l + b'\n' for l in d.lines()))
-        table, k = keys_of(lambda: crush.fresh_fill(mp))
-        counted(edit_theorem(ths, 'seed %d first-n' % seed, mp, table,
-                             d.edits[0], 100, 0))
+        mp = loaded(b''.join(l + b'\n' for l in d.lines()))
+        counted(edit_theorem(ths, 'seed %d first-n' % seed, mp,
+                             crush.fresh_fill(mp), d.edits[0], 100, 0, 0))
     print('edits: %d maps, good: %d, refused: %d, moves: %d, causes: %s, '
           'numbers: %s'
           % (count, good, refused, moves,
@@ -402,15 +449,15 @@ def damaged_maps(ths, count):
     while done < count:
         seed += 1
         kind = 'damaged' if seed % 3 else 'edges'
-        data = fill.split_input(gen.generate(seed, kind))[0]
+        data = fill.split_input(gen.generate(seed, kind, ARGS.level))[0]
         if len(data) > 4000:
             continue
         done += 1
-        res = crush.load(data)
+        res = loaded(data)
         number = res if isinstance(res, int) else 0
         numbers_seen[number] = numbers_seen.get(number, 0) + 1
         ths.add('load', '%s %d' % (kind, seed), 'loadOf %s' % text(data),
-                str(number))
+                str(number), 0, None if number else res)
         if number:
             ths.add('refusal', '%s %d' % (kind, seed),
                     'editOf %s (1 ∷ []) (2 ∷ []) (3 ∷ [])' % text(data),
@@ -430,17 +477,14 @@ def tie_maps(ths, count):
         rng = random.Random('ties:%d' % seed)
         make = rng.choice([gen.e_tie, gen.e_tie_bucket, gen.e_floor_tie,
                            gen.e_precision, gen.e_truncation])
-        data = fill.split_input(make(rng))[0]
-        mp = crush.load(data)
+        mp = loaded(fill.split_input(make(rng))[0])
         g = mp.G - 1
-        (places, tr), k = keys_of(lambda: crush.rule(mp, g))
+        (places, tr), k, dead = keys_of(lambda: crush.rule(mp, g))
         if k > ARGS.keys:
             continue
         made += 1
-        ths.add('tie', '%s %d group %d, %d keys' % (make.__name__, seed, g, k),
-                'placeOf %s %d (replicate %d 7)' % (text(data), g, mp.W),
-                'record { number = 0; places = %d; tries = %d; row = %s }'
-                % (mp.W, tr, numbers(places)), k)
+        place_theorem(ths, 'tie', '%s %d' % (make.__name__, seed), mp, g,
+                      places, tr, k, dead)
     if count:
         print('ties: %d maps' % made)
 
@@ -453,29 +497,195 @@ def event_code(e):
     return e.item * 10 + v
 
 
+def walk_theorem(ths, what, mp, g, run, keys, dead):
+    """Every draw and test of each place of group g; how many these are."""
+    walks = [[event_code(e) for _, _, e in p.walk()] for _, p in run.final]
+    walks += [[]] * (mp.W - len(walks))
+    ths.add('walk', '%s group %d, %d keys' % (what, g, keys),
+            'map (λ (p : Place). map eventCode (p .walk)) '
+            '(placedOf (mapOf %s) %d .places)' % (text(crush.map_bytes(mp)), g),
+            '(%s)' % ' ∷ '.join([numbers(w) for w in walks] + ['[]']), keys, mp,
+            dead)
+    return sum(map(len, walks))
+
+
 def walk_maps(ths, count):
     seed, done, events = ARGS.seed * 100000 + 50000, 0, 0
     while done < count:
         seed += 1
         rng, d = small_doc(seed)
-        mp = crush.load(d.bytes())
+        mp = loaded(d.bytes())
         g = rng.randrange(mp.G)
-        run, k = keys_of(lambda: crush.Run(mp, g))
+        run, k, dead = keys_of(lambda: crush.Run(mp, g))
         if k > ARGS.keys:
             continue
         done += 1
-        walks = [[event_code(e) for _, _, e in p.walk()] for _, p in run.final]
-        walks += [[]] * (mp.W - len(walks))
-        events += sum(map(len, walks))
-        ths.add('walk', 'seed %d group %d, %d keys' % (seed, g, k),
-                'map (λ (p : Place). map eventCode (p .walk)) '
-                '(placedOf (mapOf %s) %d .places)' % (text(d.bytes()), g),
-                '(%s)' % ' ∷ '.join([numbers(w) for w in walks] + ['[]']), k)
+        events += walk_theorem(ths, 'seed %d' % seed, mp, g, run, k, dead)
     if count:
         print('walks: %d maps, events compared: %d' % (count, events))
 
 
+# ------------------------------------------------------- select through
+
+def through_doc(rng, dead):
+    """Cabinets of one or two drives under one root, or under two rooms, and a
+    rule that goes through them; with dead, the drives of one cabinet take
+    nothing."""
+    rooms = rng.random() < 0.4
+    d = gen.cabinets(rng, rng.choice([2, 3, 3]), [1, 1, 2], 1,
+                     levels=2 if rooms else 1)
+    held = {}
+    for b, c in d.kids:
+        held.setdefault(b, []).append(c)
+    off = held[20] if dead else rng.sample(range(len(d.devs)), 1)
+    for dev in d.devs:
+        if dev[0] in off:
+            dev[2] = 0 if dead else rng.choice([65536, 30000, 0])
+    through = (5, rng.choice([1, 2, 2, 3]), 1)
+    d.steps = gen.block(9, through)
+    if rooms:
+        d.steps = rng.choice([d.steps, gen.block(9, (3, 2, 2), through),
+                              gen.block(9, (5, 2, 2))])
+    return d
+
+
+def through_maps(ths, count):
+    seed, done = ARGS.seed * 100000, 0
+    events = moves = 0
+    causes, numbers_seen = {}, {}
+    while done < count:
+        seed += 1
+        rng = random.Random('through:%d' % seed)
+        want_dead = done % 2 == 1
+        d = through_doc(rng, want_dead)
+        mp = good_edits(rng, d, 1)
+        run, k, dead = keys_of(lambda: crush.Run(mp, 0))
+        line = d.edits[0]
+        both, dead_both = runs_cost(mp, edited(mp, line))
+        table = crush.fresh_fill(mp)
+        res = crush.edit(mp, table, line, 230)
+        met = {mv[4] for mv in res.moves}
+        if both > ARGS.keys or bool(dead) != want_dead:
+            continue
+        # every fourth map has a move with cause 03, nearly every other a move
+        if (done % 4 == 0 and '03' not in met) or \
+                (not met and rng.random() < 0.9):
+            continue
+        done += 1
+        what = 'seed %d' % seed
+        ths.add('load', what, 'loadOf %s' % text(crush.map_bytes(mp)), '0', 0,
+                mp)
+        place_theorem(ths, 'place', what, mp, 0, run.places, run.tries, k, dead)
+        events += walk_theorem(ths, what, mp, 0, run, k, dead)
+        edit_theorem(ths, what, mp, table, line, 230, both, dead_both)
+        fill_theorem(ths, what, res.map)
+        for move in res.moves:
+            causes[move[4]] = causes.get(move[4], 0) + 1
+            moves += 1
+        for _ in range(3):
+            data = gen.e_through_rule(rng)
+            number = loaded(data)
+            number = number if isinstance(number, int) else 0
+            numbers_seen[number] = numbers_seen.get(number, 0) + 1
+            ths.add('load', what + ' a rule', 'loadOf %s' % text(data),
+                    str(number))
+    if count:
+        print('through: %d maps, events compared: %d, moves: %d, causes: %s, '
+              'numbers of rules: %s'
+              % (count, events, moves,
+                 ' '.join('%s: %d' % c for c in sorted(causes.items())),
+                 ' '.join('%d: %d' % c for c in sorted(numbers_seen.items()))))
+
+
+def one_cabinet(acceptance):
+    """One drive in one cabinet, and a rule that goes through it."""
+    d = gen.Doc()
+    d.devs, d.bks = [[0, 1, acceptance]], [[0, 1], [1, 2]]
+    d.kids = [[0, 0], [1, 65536]]
+    d.steps = gen.block(1, (5, 1, 1))
+    return loaded(d.bytes())
+
+
+def giving_up(root):
+    """The crate with the two placings of one cabinet; the dead one's is put
+    together of its fifty turns, each an equation, since all in one take too
+    many steps."""
+    opened = open(os.path.join(CRATE, 'specs', 'Open.antt')).read()
+    used = {}
+    for mod, names in re.findall(r'specs\.(\w+)\.\{([^}]*)\}', opened):
+        used.setdefault(mod, []).extend(names.split(', '))
+    head = header()[0]
+    for names in used.values():
+        names[:] = [n for n in names if not re.search(r'[{ ]%s[,}]' % n, head)]
+    more = ''.join('use %s%s.{%s}\n' % (OF, mod, ', '.join(names))
+                   for mod, names in used.items() if names)
+    more += ''.join('use %s%s.{%s}\n' % (OF, mod, names) for mod, names in (
+        ('declared.Mode.the-variants', 'Through'),
+        ('declared.State', 'State'), ('declared.Turn.the-variants', 'Fail'),
+        ('View', 'View'), ('Walk', 'RankEvents, TurnEvents')))
+    head, computing = header(more)
+    folded = re.search(r'(?m)^unfolding (.*)$', opened).group(1)
+    folded = ' '.join(n for n in folded.split() if n != 'rankOf')
+    places, tries = crush.rule(one_cabinet(65536), 0)
+    none, most = crush.rule(one_cabinet(0), 0)
+    answer = 'record { number = 0; places = 1; tries = %d; row = %s }'
+    turns = ''.join('turn%d : turn (at %d) .turn ≡ Fail (at %d)\n%s\n'
+                    'turn%d = refl\n\n' % (k, k, k + 1, computing, k)
+                    for k in range(50))
+    chain = ' ∙ '.join('step %d (at %d) (at %d) turn%d' % (49 - k, k, k + 1, k)
+                       for k in range(50))
+    write_crate(root, 'giving_up', head + """
+live-cabinet : placeOf %s 0 (7 ∷ []) ≡ %s
+%s
+live-cabinet = refl
+
+abbrev dead : List ℕ
+dead = %s
+
+abbrev seen : View
+seen = viewOf (mapOf dead)
+
+abbrev turn : State → TurnEvents
+turn s = turnOf seen 0 Through 1 1 (testOf Through seen 0 1 []) 1 1 s
+
+abbrev rank : ℕ → State → RankEvents
+rank k s = rankFrom seen 0 Through 1 1 (testOf Through seen 0 1 []) 1 1 k s
+
+-- the rank after k failures
+abbrev at : ℕ → State
+at k = record { at = 1; fr = k; f = k; inner = 50 * k }
+
+step : (k : ℕ) (s z : State) → turn s .turn ≡ Fail z → rank (suc k) s .ranked ≡ rank k z .ranked
+unfolding rankFrom onTurn afterTurn onward
+step k s z h = rw h
+
+%sgives-up : rankOf seen 0 Through 1 1 [] 1 1 0 .ranked ≡ record { item = 65535; entry = 65535; fr = 50; f = 50; inner = 2500 }
+unfolding rankOf rankBy rankStart rankFrom rankEnd
+gives-up = %s
+
+dead-cabinet : placeOf dead 0 (7 ∷ []) ≡ %s
+unfolding bytesTo %s
+dead-cabinet = rw gives-up
+""" % (text(crush.map_bytes(one_cabinet(65536))),
+       answer % (tries, numbers(places)), computing,
+       text(crush.map_bytes(one_cabinet(0))), turns, chain,
+       answer % (most + ARGS.wrong, numbers(none)), folded))
+    print('giving up: %d tries live, %d tries dead' % (tries, most))
+
+
 # ------------------------------------------------------------- checking
+
+def write_crate(root, name, check):
+    base = os.path.join(root, 'crates', name)
+    os.makedirs(os.path.join(base, 'src'))
+    os.makedirs(os.path.join(base, 'specs'))
+    for path, held in (
+            (('src', 'lib.rt'), '// Written by evaluate_definitions.py: no code.\n'),
+            (('specs', 'Lib.antt'), 'pub mod Check\n'),
+            (('specs', 'Check.antt'), check)):
+        with open(os.path.join(base, *path), 'w') as f:
+            f.write(held)
+
 
 def run(ths, root):
     head, opened = header()
@@ -484,22 +694,15 @@ def run(ths, root):
     for i in range(0, len(items), ARGS.per):
         name = 'check%d' % (i // ARGS.per)
         crates.append((name, items[i:i + ARGS.per]))
-        base = os.path.join(root, 'crates', name)
-        os.makedirs(os.path.join(base, 'src'))
-        os.makedirs(os.path.join(base, 'specs'))
-        open(os.path.join(base, 'src', 'lib.rt'), 'w').write(
-            '// Written by evaluate_definitions.py: no code.\n')
-        open(os.path.join(base, 'specs', 'Lib.antt'), 'w').write(
-            'pub mod Check\n')
-        with open(os.path.join(base, 'specs', 'Check.antt'), 'w') as f:
-            f.write(head + '\n')
-            for n, _, _, t in items[i:i + ARGS.per]:
-                f.write('%s\n%s\n%s = refl\n\n' % (t, opened, n))
+        write_crate(root, name, head + '\n' + ''.join(
+            '%s\n%s\n%s = refl\n\n' % (t, opened, n)
+            for n, _, _, t, _ in items[i:i + ARGS.per]))
     with open(os.path.join(root, 'crates.txt'), 'w') as f:
         f.write('definitions:\n')
-        for name, _ in crates:
-            f.write('%s: definitions\n' % name)
-    held = {}
+        for name in sorted(os.listdir(os.path.join(root, 'crates'))):
+            if name != 'definitions':
+                f.write('%s: definitions\n' % name)
+    held, held_of = {}, {}
     total = {}
     failed = []
     limit = set()
@@ -520,12 +723,13 @@ def run(ths, root):
             raise SystemExit('evaluate_definitions.py: rt check failed, with no theorem named')
         if not p.returncode and bad:
             raise SystemExit('evaluate_definitions.py: rt check passed and named a theorem')
-        for n, kind, keys, t in its:
+        for n, kind, keys, t, of_map in its:
             total[kind] = total.get(kind, 0) + 1
             if n in bad:
                 failed.append((n, kind, t))
             else:
                 held[kind] = held.get(kind, 0) + 1
+                held_of[of_map] = held_of.get(of_map, 0) + 1
         if ARGS.verbose:
             now = resource.getrusage(resource.RUSAGE_CHILDREN)
             print('%s: %d equations, %d refused, %d keys, %.1f s (CPU %.1f s, '
@@ -535,6 +739,16 @@ def run(ths, root):
                       now.ru_maxrss // 1024))
             cpu = now.ru_utime
             sys.stdout.flush()
+    up = None
+    if ARGS.giving_up:
+        at = time.time()
+        p = subprocess.run(['rt', 'check', 'giving_up'], cwd=root, env=env,
+                           stdout=subprocess.PIPE, stderr=subprocess.STDOUT)
+        up = p.returncode == 0
+        print('one cabinet, live and dead: %s, %.0f s'
+              % ('held' if up else 'refused', time.time() - at))
+        if not up and not ARGS.wrong:
+            print(p.stdout.decode(errors='replace')[-3000:])
     if ARGS.keep:
         print('kept', root)
     else:
@@ -549,9 +763,12 @@ def run(ths, root):
     ok = sum(held.values())
     if ARGS.wrong:
         print('wrong values: %d refused, %d taken' % (len(failed), ok))
-        return 1 if ok else 0
-    print('held: %d of %d' % (ok, len(items)))
-    return 1 if failed else 0
+        return 1 if ok or up else 0
+    print('held: %d of %d; on maps with a step 5: %d, of which with an inner '
+          'walk that finds none: %d'
+          % (ok, len(items), ok - held_of.get('other', 0),
+             held_of.get('step 5, none found', 0)))
+    return 1 if failed or up is False else 0
 
 
 def main():
@@ -566,6 +783,10 @@ def main():
     damaged_maps(ths, ARGS.damaged)
     tie_maps(ths, ARGS.ties)
     walk_maps(ths, ARGS.walks)
+    if ARGS.level >= crush.THROUGH_STEP:
+        through_maps(ths, ARGS.through)
+    if ARGS.giving_up:
+        giving_up(root)
     sys.exit(run(ths, root))
 
 

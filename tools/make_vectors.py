@@ -1,17 +1,19 @@
 #!/usr/bin/env python3
 """Makes the cases of program `vectors` anew: maps with edits, and what a CRUSH by another hand gives for them.
 
-make_vectors.py --oracle DIR: DIR holds that CRUSH as crush.py, fill.py and gen.py. Writes crates/vectors/data/cases and crates/vectors/stdout.
-A case is a line of five numbers of eight digits, then the bytes of the map, of the edits and of the answer: the numbers are these three lengths,
+make_vectors.py --oracle DIR [--level L]: DIR holds that CRUSH as crush.py, fill.py and gen.py; L is the last change of document 02 that counts.
+Writes crates/vectors/data/cases and crates/vectors/stdout. A case is a line of five numbers of eight digits, then the bytes of the map, of the edits and of the answer: the numbers are these three lengths,
 the groups and the width (0 and 0 of a refused map). The answer is a refusal; or each row, behind those of the groups below 64 a frame `12`
-with the tries (8), then what each edit prints and the map that is left. What is printed are the answers by kind of case."""
+with the tries (8), then what each edit prints and the map that is left. What is printed are the answers by kind of case, then of the maps with
+a step 5 how many there are, how many of them are filled and edited, and the moves, by cause, whose cause stands in an inner walk: of a 03 that
+of the place where following it ends."""
 import argparse
 import collections
 import pathlib
 import sys
 
 CRATE = pathlib.Path(__file__).resolve().parent.parent / "crates" / "vectors"
-SEEDS = {"valid": 260, "damaged": 260, "edges": 147, "ambiguous": 10}
+SEEDS = {"valid": 260, "damaged": 260, "edges": 441, "ambiguous": 16}
 TRIED = 64
 # what the program has space for, in bytes
 MAP, EDITS, ANSWER = 65600, 65536, 393216
@@ -39,9 +41,9 @@ def samples():
     yield text(M[:4] + M[3:-1] + ["050008"])
 
 
-def answer_of(reference, crush, frames, edits):
+def answer_of(reference, crush, level, frames, edits):
     """The answer, the groups and the width."""
-    mp = crush.load(frames)
+    mp = crush.load(frames, level)
     if isinstance(mp, int):
         return reference.refusal(mp), 0, 0
     table = [0] * reference.TABLE_PLACES
@@ -77,20 +79,51 @@ def name_of(line):
     return line.decode() if kind == b"1f" else {b"11": "rows", b"12": "tries"}.get(kind, "frames")
 
 
-def inputs(gen, large):
+def edge_of(gen, seed):
+    """The edge of document 01 that the generator makes of a seed; the two of three seeds between are the changes' own."""
+    return f"edge {seed // 3 % len(gen.EDGES)}" if seed % 3 == 0 else "changes"
+
+
+def inputs(gen, level, large):
     """Kind, edge and bytes of each input; an edge whose inputs are large comes once."""
     for given in samples():
         yield "samples", "samples", given
     for kind, seeds in SEEDS.items():
         for seed in range(seeds):
-            edge = f"edge {seed % len(gen.EDGES)}" if kind == "edges" else kind
+            edge = edge_of(gen, seed) if kind == "edges" else kind
             if edge == kind or edge not in large:
-                yield kind, edge, gen.generate(seed, kind)
+                yield kind, edge, gen.generate(seed, kind, level)
+
+
+def watch(crush):
+    """A list that takes, of each move, its cause and whether what it leads to stands in an inner walk."""
+    parting, cause, seen, last, depth = crush.first_parting, crush.cause_of, [], [False], [0]
+
+    def watched_parting(old, new):
+        part = parting(old, new)
+        last[0] = part is not None and part[2].inner
+        return part
+
+    def watched_cause(e, old, new):
+        depth[0] += 1
+        met = cause(e, old, new)
+        depth[0] -= 1
+        if depth[0] == 0:
+            seen.append((met[0], last[0]))
+        return met
+
+    crush.first_parting, crush.cause_of = watched_parting, watched_cause
+    return seen
+
+
+def goes_through(frames):
+    return any(line.startswith(b"0405") for line in frames.splitlines())
 
 
 def main():
     parser = argparse.ArgumentParser(description=__doc__)
     parser.add_argument("--oracle", type=pathlib.Path, required=True)
+    parser.add_argument("--level", type=int, default=1)
     options = parser.parse_args()
     sys.path.insert(0, str(options.oracle))
     import crush
@@ -98,12 +131,15 @@ def main():
     import gen
 
     cases, answers, large, out = collections.Counter(), collections.defaultdict(collections.Counter), set(), []
-    for kind, edge, given in inputs(gen, large):
+    through, inner = collections.Counter(), collections.Counter()
+    seen = watch(crush)
+    for kind, edge, given in inputs(gen, options.level, large):
         frames, edits = reference.split_input(given)
         rest = given[len(frames):]
         if len(frames) > MAP or len(rest) > EDITS or (len(given) > LARGE and edge in large):
             continue
-        answer, groups, w = answer_of(reference, crush, frames, edits)
+        seen.clear()
+        answer, groups, w = answer_of(reference, crush, options.level, frames, edits)
         if len(given) + len(answer) > LARGE:
             if edge in large:
                 continue
@@ -113,10 +149,15 @@ def main():
         out.append(b"%08x%08x%08x%08x%08x\n" % (len(frames), len(rest), len(answer), groups, w) + frames + rest + answer)
         cases[kind] += 1
         answers[kind].update(name_of(line) for line in answer.splitlines())
+        if goes_through(frames):
+            through.update(["maps"] + ["filled"] * (groups > 0) + ["filled and edited"] * (groups > 0 and len(edits) > 0))
+            through.update(["with moves"] * (len(seen) > 0))
+            inner.update(cause for cause, within in seen if within)
     (CRATE / "data" / "cases").write_bytes(b"".join(out))
     (CRATE / "stdout").write_text(f"{len(out)} cases, 0 wrong\n")
     for kind, count in cases.items():
         print(f"{kind}: {count} cases, {dict(sorted(answers[kind].items()))}")
+    print(f"step 5: {dict(through)}, moves by an inner walk {dict(sorted(inner.items()))}")
     print(f"{len(out)} cases, {sum(map(len, out))} bytes")
 
 

@@ -9,7 +9,7 @@ use lib.Dec.{leb, eqb}
 use lib.ListN.{length, getD}
 use borrow.Author.Tests.{leb-true, eqb-true, eqb-false, eq-eqb, ne-eqb}
 use Rattle.definitions.specs.declared.Step.{Step}
-use Rattle.definitions.specs.declared.Mode.the-variants.{FirstN, Independent}
+use Rattle.definitions.specs.declared.Mode.the-variants.{FirstN, Independent, Through}
 use Rattle.definitions.specs.declared.Action.{Action}
 use Rattle.definitions.specs.declared.Action.the-variants.{Take, Select, Emit, Idle}
 use Rattle.definitions.specs.Lists.{every}
@@ -55,9 +55,20 @@ module _ (s : Step) where
   action-emit e =
       rw (ne-eqb (s .step) 1 (λ f. omega arith), ne-eqb (s .step) 2 (λ f. omega arith), ne-eqb (s .step) 3 (λ f. omega arith), eq-eqb (s .step) 4 e)
 
-  pub action-idle : (s .step ≡ 1 → ⊥) → (s .step ≡ 2 → ⊥) → (s .step ≡ 3 → ⊥) → (s .step ≡ 4 → ⊥) → actionOf s ≡ Idle
+  pub action-through : s .step ≡ 5 → actionOf s ≡ Select Through (s .count) (s .ty)
   unfolding actionOf
-  action-idle a b c d = rw (ne-eqb (s .step) 1 a, ne-eqb (s .step) 2 b, ne-eqb (s .step) 3 c, ne-eqb (s .step) 4 d)
+  action-through e =
+      rw (
+        ne-eqb (s .step) 1 (λ f. omega arith),
+        ne-eqb (s .step) 2 (λ f. omega arith),
+        ne-eqb (s .step) 3 (λ f. omega arith),
+        ne-eqb (s .step) 4 (λ f. omega arith),
+        eq-eqb (s .step) 5 e,
+      )
+
+  pub action-idle : (s .step ≡ 1 → ⊥) → (s .step ≡ 2 → ⊥) → (s .step ≡ 3 → ⊥) → (s .step ≡ 4 → ⊥) → (s .step ≡ 5 → ⊥) → actionOf s ≡ Idle
+  unfolding actionOf
+  action-idle a b c d e = rw (ne-eqb (s .step) 1 a, ne-eqb (s .step) 2 b, ne-eqb (s .step) 3 c, ne-eqb (s .step) 4 d, ne-eqb (s .step) 5 e)
 
   -- in range, by the three forms of a step
   take-ranged : takeRanged s ≡ true → ActionRanged (actionOf s)
@@ -69,21 +80,25 @@ module _ (s : Step) where
       let h : s .bucket ≤ 255 = leb-true _ _ (q2 .1) in
       rw (action-take (eqb-true _ _ (q0 .0))) (omega arith)
 
-  -- a select is of the one mode or the other
+  -- a select is of one of the three modes
   select-ranged : selectRanged s ≡ true → ActionRanged (actionOf s)
   unfolding selectRanged
   select-ranged e =
-      let q2 = both (within 2 3 (s .step) && within 1 16 (s .count) && leb (s .ty) 254) (eqb (s .bucket) 0) e in
-      let q1 = both (within 2 3 (s .step) && within 1 16 (s .count)) (leb (s .ty) 254) (q2 .0) in
-      let q0 = both (within 2 3 (s .step)) (within 1 16 (s .count)) (q1 .0) in
-      let k = both (leb 2 (s .step)) (leb (s .step) 3) (q0 .0) in
+      let step = within 2 3 (s .step) || eqb (s .step) 5 in
+      let q2 = both (step && within 1 16 (s .count) && leb (s .ty) 254) (eqb (s .bucket) 0) e in
+      let q1 = both (step && within 1 16 (s .count)) (leb (s .ty) 254) (q2 .0) in
+      let q0 = both step (within 1 16 (s .count)) (q1 .0) in
       let n = both (leb 1 (s .count)) (leb (s .count) 16) (q0 .1) in
-      go (leb-true _ _ (k .0)) (leb-true _ _ (k .1)) (leb-true _ _ (n .0), leb-true _ _ (n .1), leb-true _ _ (q1 .1)) (eqb (s .step) 2) refl
+      go (leb-true _ _ (n .0), leb-true _ _ (n .1), leb-true _ _ (q1 .1)) (either (within 2 3 (s .step)) (eqb (s .step) 5) (q0 .0))
     where
-      go : 2 ≤ s .step → s .step ≤ 3 → (1 ≤ s .count) × (s .count ≤ 16) × (s .ty ≤ 254)
+      plain : (1 ≤ s .count) × (s .count ≤ 16) × (s .ty ≤ 254) → 2 ≤ s .step → s .step ≤ 3
           → (b : Bool) → eqb (s .step) 2 ≡ b → ActionRanged (actionOf s)
-      go h k r true q = rw (action-first (eqb-true _ _ q)) r
-      go h k r false q = rw (action-independent (omega (arith, eqb-false (s .step) 2 q))) r
+      plain r h k true q = rw (action-first (eqb-true _ _ q)) r
+      plain r h k false q = rw (action-independent (omega (arith, eqb-false (s .step) 2 q))) r
+
+      go : (1 ≤ s .count) × (s .count ≤ 16) × (s .ty ≤ 254) → (within 2 3 (s .step) ≡ true) ⊎ (eqb (s .step) 5 ≡ true) → ActionRanged (actionOf s)
+      go r (inl h) = let k = both (leb 2 (s .step)) (leb (s .step) 3) h in plain r (leb-true _ _ (k .0)) (leb-true _ _ (k .1)) (eqb (s .step) 2) refl
+      go r (inr h) = rw (action-through (eqb-true _ _ h)) r
 
   emit-ranged : emitRanged s ≡ true → ActionRanged (actionOf s)
   unfolding emitRanged

@@ -16,7 +16,7 @@ use Rattle.definitions.specs.declared.Standing.the-variants.{Inside}
 use Rattle.definitions.specs.Lists.{every, sum}
 use Rattle.definitions.specs.Map.{Map, actionsOf}
 use Rattle.definitions.specs.Rule.{widthsFrom, widths, widthOf}
-use Rattle.definitions.specs.Load.{ranged, standing, isOutside, inBlocks, slim}
+use Rattle.definitions.specs.Load.{ranged, reaches, standing, isOutside, inBlocks, slim}
 use Rattle.laws.specs.Lists.{every-head, every-tail}
 use Rattle.laws.specs.Loadable.{slim-is}
 use Rattle.blocks.specs.Actions.{action-ranged}
@@ -109,8 +109,8 @@ module _ (m : Map) (r : ranged m ≡ true) (b : inBlocks m ≡ true) (s : slim m
       go : {st st′ : Standing} {a : Action} → InOrder m st a st′ → getD (actionsOf m) k Idle ≡ a → st ≡ Inside u → standing m (suc k) ≡ st′
           → ((t : ℕ) → standing m (suc k) ≡ Inside t → Small (suc k)) → Small k
       go takes q f o rest = absurd (let z : _≡_ {A = ℕ} 0 1 = cc in omega arith)
-      go (selects {n = c} {t} l) q f o rest =
-          let g = rw q at (rest t o) in
+      go (selects {n = c} {t} {mode} l) q f o rest =
+          let g = rw q at (rest (reaches mode t) o) in
           let w = action-ranged m k _ r (omega (arith, length-actions m)) (sym q) in
           let d : productTo (actionsOf m) k ≤ productTo (actionsOf m) k * c = le-mul-of-pos-right (productTo (actionsOf m) k) (w .0) in
           (omega (arith, g .0), omega (arith, g .1))
@@ -131,7 +131,7 @@ module _ (m : Map) (r : ranged m ≡ true) (b : inBlocks m ≡ true) (s : slim m
       go : {st st′ : Standing} {a : Action} → InOrder m st a st′ → getD (actionsOf m) k Idle ≡ a → standing m (suc k) ≡ st′
           → productTo (actionsOf m) k ≤ 16 → productAfter (productTo (actionsOf m) k) a ≤ 16
       go takes q o l = omega arith
-      go (selects {t} g) q o l = rw q at (inside-small (suc k) t h o .0)
+      go (selects {t} {mode} g) q o l = rw q at (inside-small (suc k) (reaches mode t) h o .0)
       go emits q o l = l
 
   -- and inside a block, with what is emitted, at most 32

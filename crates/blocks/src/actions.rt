@@ -21,6 +21,7 @@ pub fn action_of(s: Step) -> Action
         2 => Action::Select(Mode::FirstN, s.count, s.ty),
         3 => Action::Select(Mode::Independent, s.count, s.ty),
         4 => Action::Emit,
+        5 => Action::Select(Mode::Through, s.count, s.ty),
         _ => Action::Idle,
     }
 }

@@ -1,4 +1,5 @@
-// Question 11: "1 to 16 steps, all in blocks of take, selects, emit, types strictly falling from the bucket taken to 0?"
+// Question 11: "1 to 16 steps, all in blocks of take, selects, emit, types strictly falling from the bucket taken to 0?" Of step 5, select
+// through: "The step is the last select of its block, so question 11 lets a block end at it".
 ghost use mathlib.Core.Path.{_≡_};
 ghost use Prim.Native.Nat.{ℕ, _<_};
 ghost use mathlib.Core.Bool.{true};
@@ -6,13 +7,14 @@ ghost use lib.ListN.{length, getD};
 ghost use Rattle.definitions.specs.Frames.{framesIn};
 ghost use Rattle.definitions.specs.Map.{Map, mapOf};
 ghost use Rattle.definitions.specs.View.{bucketType};
-ghost use Rattle.definitions.specs.Load.{ranged, stand, isOutside, inBlocks};
+ghost use Rattle.definitions.specs.Load.{ranged, reaches, stand, isOutside, inBlocks};
 ghost use Rattle.text.specs.Shape.{shapeOf};
 ghost use Rattle.text.specs.RoundTrip.{Framed};
 ghost use Rattle.blocks.specs.Actions.{ActionRanged};
 ghost use Rattle.blocks.specs.Standing.{TypesOf};
 use crate::actions;
 use definitions::Action;
+use definitions::Mode;
 use definitions::Standing;
 use text::Shape;
 
@@ -33,14 +35,25 @@ fn enter(types: &[u32], a: Action) -> Standing
     }
 }
 
+// The type of what a select puts out: a select through puts out devices, so no select can follow it and an emit can.
+fn reaches(mode: Mode, ty: u32) -> u32
+    ensures { λ r. ⌜ r ≡ reaches mode ty ⌝ }
+{
+    match mode {
+        Mode::FirstN => ty,
+        Mode::Independent => ty,
+        Mode::Through => 0,
+    }
+}
+
 // From inside a block, at type u.
 fn proceed(u: u32, a: Action) -> Standing
     ensures { λ r. ⌜ ((m : Map) → r ≡ stand m (Standing.Inside u) a) ⌝ }
 {
     match a {
         Action::Take(_) => Standing::Broken,
-        Action::Select(_, _, ty) => if ty < u {
-            Standing::Inside(ty)
+        Action::Select(mode, _, ty) => if ty < u {
+            Standing::Inside(reaches(mode, ty))
         } else {
             Standing::Broken
         },

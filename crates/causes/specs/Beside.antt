@@ -1,6 +1,6 @@
 -- Two runs beside one another, as the code keeps them: where an action leads both. Assumes nothing.
 use mathlib.Core.Path.{_≡_, refl, sym, ap, _∙_, subst}
-use mathlib.Core.Bool.{true, false≢true}
+use mathlib.Core.Bool.{true}
 use mathlib.Core.List.{List, [], _∷_, _++_}
 use mathlib.Core.Logic.{inl}
 use Prim.Native.Nat.{ℕ, zero, suc, _+_, _-_, _*_, _/_, _%_, _<_, _≤_}
@@ -11,19 +11,19 @@ use native.Mathlib.Omega.{arith}
 use lib.ListN.{length, getD, take, length-append, length-map, List·getD-append, List·getD-map}
 use lib.Seq.{take-take, getD-take, getD-append-add, length-take-le, paste, take-paste}
 use Rattle.definitions.specs.declared.Mode.{Mode}
-use Rattle.definitions.specs.declared.Mode.the-variants.{FirstN, Independent}
+use Rattle.definitions.specs.declared.Mode.the-variants.{FirstN, Independent, Through}
 use Rattle.definitions.specs.declared.Action.{Action}
 use Rattle.definitions.specs.declared.Action.the-variants.{Take, Select, Emit, Idle}
 use Rattle.definitions.specs.Lists.{every}
 use Rattle.definitions.specs.View.{View}
 use Rattle.definitions.specs.Walk.{hole}
-use Rattle.definitions.specs.Select.{Place, placeUnder, entriesOf, nowhere, selectOf}
+use Rattle.definitions.specs.Select.{Place, placeUnder, entriesOf, itemsOf, nowhere, selectOf}
 use Rattle.definitions.specs.Rule.{Run, taken, selected, act, runTo}
 use Rattle.definitions.specs.Edit.{parting, causeOf}
 use Rattle.definitions.specs.Calls.{notFirstN}
 use Rattle.hierarchy.specs.Arrays.{viewIn}
 use Rattle.laws.specs.Lists.{every-at}
-use Rattle.tracing.specs.Runs.{rankUnder, placeAfter, select-count, select-place}
+use Rattle.tracing.specs.Runs.{leaves, rankUnder, placeAfter, select-count, select-place}
 use Rattle.placement.specs.declared.rule.Progress.{Progress}
 use Rattle.placement.specs.Bare.{BareRun, bareRunOf, bareAct, act-bare, run-bare}
 use Rattle.placement.specs.Entries.{Each, each-at, same-at}
@@ -36,11 +36,11 @@ use Rattle.causes.specs.Under.{TellsUnder, TellsTo}
 
 -- ---- lists
 
-entries-take : (p : ℕ) (ps : List Place) → entriesOf (take p ps) ≡ take p (entriesOf ps)
-unfolding entriesOf
-entries-take zero ps = refl
-entries-take (suc p) [] = refl
-entries-take (suc p) (a ∷ ps) = ap (λ (l : List ℕ). a .entry ∷ l) (entries-take p ps)
+items-take : (p : ℕ) (ps : List Place) → itemsOf (take p ps) ≡ take p (itemsOf ps)
+unfolding itemsOf
+items-take zero ps = refl
+items-take (suc p) [] = refl
+items-take (suc p) (a ∷ ps) = ap (λ (l : List ℕ). a .item ∷ l) (items-take p ps)
 
 length-entries : (ps : List Place) → length (entriesOf ps) ≡ length ps
 unfolding entriesOf
@@ -54,9 +54,9 @@ entry-at ps i = List·getD-map (λ (p : Place). p .entry) ps i nowhere
 held-entry : (es : List ℕ) (len : ℕ) (ps : List Place) (i : ℕ) → take len es ≡ entriesOf ps → i < len → i < length es → getD ps i nowhere .entry ≡ getD es i 0
 held-entry es len ps i e h l = sym (entry-at ps i) ∙ ap (λ (z : List ℕ). getD z i hole) (sym e) ∙ getD-take len es i hole h ∙ same-at es i hole 0 l
 
--- the entries of the first places
-held-front : (es : List ℕ) (len : ℕ) (ps : List Place) (p : ℕ) → take len es ≡ entriesOf ps → p ≤ len → entriesOf (take p ps) ≡ take p es
-held-front es len ps p e h = entries-take p ps ∙ ap (take p) (sym e) ∙ take-take p len es h
+-- the items of the first places
+held-front : (is : List ℕ) (len : ℕ) (ps : List Place) (p : ℕ) → take len is ≡ itemsOf ps → p ≤ len → itemsOf (take p ps) ≡ take p is
+held-front is len ps p e h = items-take p ps ∙ ap (take p) (sym e) ∙ take-take p len is h
 
 div-below : (p n k : ℕ) → p < k * n → p / n < k
 div-below p zero k h = absurd (omega arith)
@@ -70,7 +70,7 @@ workable-above es len n k h w g p l =
 
 -- ---- two runs in one `Both`
 
--- p holds the two runs: their entries, and the causes of the places of both lists
+-- p holds the two runs: their items and entries, and the causes of the places of both lists
 pub record Beside (s s′ : Run) (p : Both) : Type 0 where
   pub old : runIn (p .old) ≡ bareRunOf s
   pub new : runIn (p .new) ≡ bareRunOf s′
@@ -87,10 +87,11 @@ Fit q a = Room q × (q .tries ≤ 1000000) × Doable q a
 abbrev pub Able : Both → Action → Type 0
 Able p a = Fit (p .old) a × Fit (p .new) a × (notFirstN a ≡ true)
 
-pub leaves-holes : (mode : Mode) (n t : ℕ) → notFirstN (Select mode n t) ≡ true → mode ≡ Independent
-unfolding notFirstN
+pub leaves-holes : (mode : Mode) (n t : ℕ) → notFirstN (Select mode n t) ≡ true → leaves mode ≡ true
+unfolding notFirstN leaves
+leaves-holes FirstN n t i = i
 leaves-holes Independent n t i = refl
-leaves-holes FirstN n t i = absurd (false≢true i)
+leaves-holes Through n t i = refl
 
 -- cs are the causes of the places of the working lists after action a
 unfoldable pub Worked : View → View → ℕ → Both → Action → List ℕ → Type 0
@@ -215,65 +216,60 @@ module _ (v v′ : View) (x : ℕ) (p : Both) where
       append-causes cs (s .list) (s′ .list) (s .working) (s′ .working) (h .emitted) (h .len) hc hl
       (ap (take (p .old .emitted + p .old .len)) e ∙ take-paste (p .list) (p .old .emitted) (p .causes) (p .old .len) hl hc) (h .listed) (h .told)
 
-  -- ---- a select: o and o′ are where an independent one leads both runs, and cs the causes of its places
-  module _ (n t : ℕ) (o o′ : Progress) (cs : List ℕ) (within : p .old .len ≤ length (p .old .working))
-      (e : Acted v x (p .old) (Select Independent n t) o) (e′ : Acted v′ x (p .new) (Select Independent n t) o′)
+  -- ---- a select: o and o′ are where one that leaves holes leads both runs, and cs the causes of its places
+  module _ (mode : Mode) (n t : ℕ) (o o′ : Progress) (cs : List ℕ) (lv : leaves mode ≡ true) (within : p .old .len ≤ length (p .old .working))
+      (e : Acted v x (p .old) (Select mode n t) o) (e′ : Acted v′ x (p .new) (Select mode n t) o′)
       (room : o .len ≤ length (o .working)) (room′ : o′ .len ≤ length (o′ .working))
-      (tells : TellsTo v v′ x n t (o .working) (o′ .working) (p .causes) (p .old .working) (o .len) cs) where
+      (tells : TellsTo v v′ x mode n t (o .items) (o′ .items) (p .causes) (p .old .working) (o .len) cs) where
     module _ (s s′ : Run) (h : Beside s s′ p) where
       abbrev P : List Place
-      P = selectOf v x Independent n t (s .working) .places
+      P = selectOf v x mode n t (s .working) .places
 
       abbrev P′ : List Place
-      P′ = selectOf v′ x Independent n t (s′ .working) .places
+      P′ = selectOf v′ x mode n t (s′ .working) .places
 
-      olds : take (o .len) (o .working) ≡ entriesOf P
+      olds : (take (o .len) (o .items) ≡ itemsOf P) × (take (o .len) (o .working) ≡ entriesOf P)
       unfolding act selected
-      olds = ap (λ (r : BareRun). r .working) (acted-run v x (p .old) o (Select Independent n t) s (h .old) e)
+      olds = let r = acted-run v x (p .old) o (Select mode n t) s (h .old) e in (ap (λ (b : BareRun). b .items) r, ap (λ (b : BareRun). b .working) r)
 
-      news : take (o′ .len) (o′ .working) ≡ entriesOf P′
+      news : (take (o′ .len) (o′ .items) ≡ itemsOf P′) × (take (o′ .len) (o′ .working) ≡ entriesOf P′)
       unfolding act selected
-      news = ap (λ (r : BareRun). r .working) (acted-run v′ x (p .new) o′ (Select Independent n t) s′ (h .new) e′)
+      news = let r = acted-run v′ x (p .new) o′ (Select mode n t) s′ (h .new) e′ in (ap (λ (b : BareRun). b .items) r, ap (λ (b : BareRun). b .working) r)
 
       long : length P ≡ o .len
-      long = held-length (o .working) (o .len) P olds room
+      long = held-length (o .working) (o .len) P (olds .1) room
 
       long′ : length P′ ≡ o′ .len
-      long′ = held-length (o′ .working) (o′ .len) P′ news room′
+      long′ = held-length (o′ .working) (o′ .len) P′ (news .1) room′
 
       alike : length P′ ≡ length P
-      alike = select-count v′ x n t (s′ .working) ∙ ap (λ (k : ℕ). k * n) (h .told .same) ∙ sym (select-count v x n t (s .working))
+      alike = select-count v′ x mode n t (s′ .working) lv ∙ ap (λ (k : ℕ). k * n) (h .told .same) ∙ sym (select-count v x mode n t (s .working) lv)
 
       place : (i : ℕ) → i < length P
-          → getD P i nowhere ≡ placeUnder (getD (s .working) (i / n) nowhere) (rankUnder v x n t (take i (o .working)) (getD (s .working) (i / n) nowhere) (i % n + 1))
+          → getD P i nowhere ≡ placeUnder (getD (s .working) (i / n) nowhere) (rankUnder v x mode n t (take i (o .items)) (getD (s .working) (i / n) nowhere) (i % n + 1))
       unfolding placeAfter
       place i l =
-          let f = held-front (o .working) (o .len) P i olds (omega (arith, long)) in
-          rw (← f) (select-place v x n t (s .working) i (omega (arith, select-count v x n t (s .working))))
+          let f = held-front (o .items) (o .len) P i (olds .0) (omega (arith, long)) in
+          rw (← f) (select-place v x mode n t (s .working) lv i (omega (arith, select-count v x mode n t (s .working) lv)))
 
       place′ : (i : ℕ) → i < length P
-          → getD P′ i nowhere ≡ placeUnder (getD (s′ .working) (i / n) nowhere) (rankUnder v′ x n t (take i (o′ .working)) (getD (s′ .working) (i / n) nowhere) (i % n + 1))
+          → getD P′ i nowhere ≡ placeUnder (getD (s′ .working) (i / n) nowhere) (rankUnder v′ x mode n t (take i (o′ .items)) (getD (s′ .working) (i / n) nowhere) (i % n + 1))
       unfolding placeAfter
       place′ i l =
-          let f = held-front (o′ .working) (o′ .len) P′ i news (omega (arith, long′, alike)) in
-          rw (← f) (select-place v′ x n t (s′ .working) i (omega (arith, select-count v′ x n t (s′ .working), alike)))
+          let f = held-front (o′ .items) (o′ .len) P′ i (news .0) (omega (arith, long′, alike)) in
+          rw (← f) (select-place v′ x mode n t (s′ .working) lv i (omega (arith, select-count v′ x mode n t (s′ .working) lv, alike)))
 
       each : (i : ℕ) → i < length P → Told (getD cs i 0) (getD P i nowhere) (getD P′ i nowhere)
       unfolding TellsTo TellsUnder
       each i l =
-          let d : i / n < length (s .working) = div-below i n (length (s .working)) (omega (arith, select-count v x n t (s .working))) in
+          let d : i / n < length (s .working) = div-below i n (length (s .working)) (omega (arith, select-count v x mode n t (s .working) lv)) in
           rw (place i l, place′ i l)
           (tells i (omega (arith, long)) (getD (s .working) (i / n) nowhere) (getD (s′ .working) (i / n) nowhere) (h .told .each (i / n) d)
           (held-entry (p .old .working) (p .old .len) (s .working) (i / n) (ap (λ (r : BareRun). r .working) (h .old)) (omega (arith, h .len)) (omega (arith, h .len))))
 
-    pub worked-select : Worked v v′ x p (Select Independent n t) cs
+    pub worked-select : Worked v v′ x p (Select mode n t) cs
     unfolding Worked act selected
     worked-select s s′ h = record { same = alike s s′ h; each = each s s′ h }
-
-  pub worked-mode : (mode : Mode) (n t : ℕ) (o o′ : Progress) (cs : List ℕ) → mode ≡ Independent → p .old .len ≤ length (p .old .working)
-      → Acted v x (p .old) (Select mode n t) o → Acted v′ x (p .new) (Select mode n t) o′ → o .len ≤ length (o .working) → o′ .len ≤ length (o′ .working)
-      → TellsTo v v′ x n t (o .working) (o′ .working) (p .causes) (p .old .working) (o .len) cs → Worked v v′ x p (Select mode n t) cs
-  worked-mode mode n t o o′ cs i w e e′ r r′ tells = rw i (worked-select n t o o′ cs w (rw i at e) (rw i at e′) r r′ tells)
 
 -- ---- a loop over the steps
 

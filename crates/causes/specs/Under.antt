@@ -2,7 +2,7 @@
 use mathlib.Core.Path.{_≡_, refl, sym, ap, _∙_}
 use mathlib.Core.Bool.{true, false}
 use mathlib.Core.List.{List}
-use mathlib.Core.Logic.{_⊎_, inl, inr, ⊎-elim}
+use mathlib.Core.Logic.{inl, inr, ⊎-elim}
 use Prim.Native.Nat.{ℕ, _+_, _/_, _%_, _<_}
 use native.Mathlib.Nat.{eq-or-lt-of-le}
 use native.Mathlib.Omega.{arith}
@@ -11,51 +11,48 @@ use lib.Dec.{eqb}
 use lib.ListN.{length, getD, take, set}
 use lib.Seq.{getD-set-same, getD-set-other}
 use Rattle.definitions.specs.declared.Mode.{Mode}
-use Rattle.definitions.specs.declared.Mode.the-variants.{Independent}
-use Rattle.definitions.specs.declared.Parting.{Parting}
-use Rattle.definitions.specs.declared.Parting.the-variants.{Same, Draw, Test}
 use Rattle.definitions.specs.Map.{bucketNumber}
 use Rattle.definitions.specs.View.{View}
-use Rattle.definitions.specs.Walk.{hole, rankOf}
+use Rattle.definitions.specs.Walk.{hole, RankEvents, rankOf}
 use Rattle.definitions.specs.Select.{Place, placeUnder}
-use Rattle.definitions.specs.Edit.{parting, causeOf}
+use Rattle.definitions.specs.Edit.{causeOf}
 use Rattle.tracing.specs.Runs.{rankUnder}
+use Rattle.lockstep.specs.declared.Course.{Course}
+use Rattle.lockstep.specs.declared.Course.the-variants.{Forked, Shared}
 use Rattle.lockstep.specs.Parts.{parts-after}
-use Rattle.lockstep.specs.Agree.{same-rank, apart-rank}
+use Rattle.lockstep.specs.Lockstep.{Ranks}
 use Rattle.causes.specs.Told.{Told, told-same, told-under}
 
--- c is the cause of what rank r makes under a place of cause above and old entry e, where the select has put out these entries so far
-unfoldable pub TellsUnder : View → View → ℕ → ℕ → ℕ → List ℕ → List ℕ → ℕ → ℕ → ℕ → ℕ → Type 0
-TellsUnder v v′ x n t entries entries′ above e r c =
+-- c is the cause of what rank r makes under a place of cause above and old entry e, where the select holds these items so far
+unfoldable pub TellsUnder : View → View → ℕ → Mode → ℕ → ℕ → List ℕ → List ℕ → ℕ → ℕ → ℕ → ℕ → Type 0
+TellsUnder v v′ x mode n t held held′ above e r c =
     (a b : Place) → Told above a b → a .entry ≡ e
-    → Told c (placeUnder a (rankUnder v x n t entries a r)) (placeUnder b (rankUnder v′ x n t entries′ b r))
+    → Told c (placeUnder a (rankUnder v x mode n t held a r)) (placeUnder b (rankUnder v′ x mode n t held′ b r))
 
--- of the places of a select the first k have their causes in cs: olds and news are its entries, `working` the entries of the working list in
--- the old run, and above the causes of its places
-unfoldable pub TellsTo : View → View → ℕ → ℕ → ℕ → List ℕ → List ℕ → List ℕ → List ℕ → ℕ → List ℕ → Type 0
-TellsTo v v′ x n t olds news above working k cs =
+-- of the places of a select the first k have their causes in cs: olds and news are the items that it holds, `working` the entries of the
+-- working list in the old run, and above the causes of its places
+unfoldable pub TellsTo : View → View → ℕ → Mode → ℕ → ℕ → List ℕ → List ℕ → List ℕ → List ℕ → ℕ → List ℕ → Type 0
+TellsTo v v′ x mode n t olds news above working k cs =
     (p : ℕ) → p < k
-    → TellsUnder v v′ x n t (take p olds) (take p news) (getD above (p / n) 0) (getD working (p / n) 0) (p % n + 1) (getD cs p 0)
+    → TellsUnder v v′ x mode n t (take p olds) (take p news) (getD above (p / n) 0) (getD working (p / n) 0) (p % n + 1) (getD cs p 0)
 
-module _ (v v′ : View) (x n t : ℕ) where
+-- the cause that follows from two ranks made at once
+abbrev pub courseCause : Course → ℕ
+courseCause (Forked p) = causeOf p
+courseCause (Shared r) = 0
+
+-- two ranks under one place
+ranks-told : (c : Course) (a : Place) (k k′ : RankEvents) → Ranks c k k′ → Told (courseCause c) (placeUnder a k) (placeUnder a k′)
+unfolding placeUnder
+ranks-told (Forked p) a k k′ h = inr (p, parts-after (a .walk) h, refl)
+ranks-told (Shared r) a k k′ (e, z) = inl (ap (placeUnder a) e, refl)
+
+module _ (v v′ : View) (x : ℕ) (mode : Mode) (n t : ℕ) where
   -- ---- one place
 
-  -- two ranks under one place, which part to p or are the same
-  ranks-told : ((i : ℕ) → v .type i ≡ v′ .type i) → (entries entries′ : List ℕ) (start r : ℕ) (a : Place) (p : Parting)
-      → let k = rankOf v x Independent n t entries start r 0 in
-      let k′ = rankOf v′ x Independent n t entries′ start r 0 in
-      p ≡ parting (k .events) (k′ .events) → Told (causeOf p) (placeUnder a k) (placeUnder a k′)
-  unfolding causeOf placeUnder
-  ranks-told types entries entries′ start r a Same f =
-      inl (ap (placeUnder a) (same-rank v v′ types x Independent n t entries entries′ start r 0 (sym f)), refl)
-  ranks-told types entries entries′ start r a (Draw d d′) f =
-      inr (Draw d d′, parts-after (a .walk) (apart-rank v v′ types x Independent n t entries entries′ start r 0 (Draw d d′) (sym f) (λ l. let o : _≡_ {A = ℕ} 0 1 = cc in omega arith)), refl)
-  ranks-told types entries entries′ start r a (Test w w′) f =
-      inr (Test w w′, parts-after (a .walk) (apart-rank v v′ types x Independent n t entries entries′ start r 0 (Test w w′) (sym f) (λ l. let o : _≡_ {A = ℕ} 0 1 = cc in omega arith)), refl)
-
-  module _ (entries entries′ : List ℕ) (above e r : ℕ) where
+  module _ (held held′ : List ℕ) (above e r : ℕ) where
     abbrev Tells : ℕ → Type 0
-    Tells = TellsUnder v v′ x n t entries entries′ above e r
+    Tells = TellsUnder v v′ x mode n t held held′ above e r
 
     pub tells-above : (above ≡ 0 → ⊥) → Tells above
     unfolding TellsUnder
@@ -69,26 +66,24 @@ module _ (v v′ : View) (x n t : ℕ) where
         inl (rw (← s, u) refl, refl)
 
     -- the two ranks under one bucket
-    pub tells-rank : ((i : ℕ) → v .type i ≡ v′ .type i) → above ≡ 0 → (e ≡ hole → ⊥) → (mode : Mode) (start : ℕ) (p : Parting)
-        → mode ≡ Independent → start ≡ bucketNumber e
-        → p ≡ parting (rankOf v x mode n t entries start r 0 .events) (rankOf v′ x mode n t entries′ start r 0 .events)
-        → Tells (causeOf p)
+    pub tells-rank : above ≡ 0 → (e ≡ hole → ⊥) → (start : ℕ) (c : Course) → start ≡ bucketNumber e
+        → Ranks c (rankOf v x mode n t held start r 0) (rankOf v′ x mode n t held′ start r 0) → Tells (courseCause c)
     unfolding TellsUnder rankUnder placeUnder
-    tells-rank types z h mode start p i g f a b told q =
+    tells-rank z h start c g f a b told q =
         let s = told-same above a b told z in
         let u : eqb (a .entry) hole ≡ false = ne-eqb (a .entry) hole (λ k. h (sym q ∙ k)) in
-        rw (← s, u, q) (ranks-told types entries entries′ (bucketNumber e) r a p (rw (i, g) at f))
+        rw (← s, u, q) (ranks-told c a _ _ (rw g at f))
 
   -- ---- a loop over the places
 
   module _ (olds news above working : List ℕ) where
-    pub tells-none : (cs : List ℕ) → TellsTo v v′ x n t olds news above working 0 cs
+    pub tells-none : (cs : List ℕ) → TellsTo v v′ x mode n t olds news above working 0 cs
     unfolding TellsTo
     tells-none cs p h = absurd (omega arith)
 
-    pub tells-more : (k : ℕ) (cs : List ℕ) (c : ℕ) → k < length cs → TellsTo v v′ x n t olds news above working k cs
-        → TellsUnder v v′ x n t (take k olds) (take k news) (getD above (k / n) 0) (getD working (k / n) 0) (k % n + 1) c
-        → TellsTo v v′ x n t olds news above working (k + 1) (set cs k c)
+    pub tells-more : (k : ℕ) (cs : List ℕ) (c : ℕ) → k < length cs → TellsTo v v′ x mode n t olds news above working k cs
+        → TellsUnder v v′ x mode n t (take k olds) (take k news) (getD above (k / n) 0) (getD working (k / n) 0) (k % n + 1) c
+        → TellsTo v v′ x mode n t olds news above working (k + 1) (set cs k c)
     unfolding TellsTo
     tells-more k cs c h so one p l =
         ⊎-elim

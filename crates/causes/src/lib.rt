@@ -1,5 +1,5 @@
-// Document 01, "Table, edits, moves": the cause of each place of a group's list between two runs, old and new, of one rule of independent
-// selects over one plan.
+// Document 01, "Table, edits, moves": the cause of each place of a group's list between two runs, old and new, over one plan, of one rule
+// whose selects leave holes.
 ghost use mathlib.Core.Path.{_≡_};
 ghost use mathlib.Core.Bool.{true};
 ghost use Prim.Native.Nat.{ℕ, _/_, _<_, _≤_};
@@ -11,6 +11,7 @@ ghost use Rattle.definitions.specs.Rule.{runTo};
 ghost use Rattle.definitions.specs.Edit.{parting, causeOf};
 ghost use Rattle.definitions.specs.Calls.{notFirstN};
 ghost use Rattle.hierarchy.specs.Arrays.{viewIn, Sound, actionsIn};
+ghost use Rattle.walk.specs.Searches.{Inward};
 ghost use Rattle.placement.specs.Working.{Workable};
 ghost use Rattle.placement.specs.Ruled.{Ready};
 ghost use Rattle.placement.specs.Progress.{Acted};
@@ -18,11 +19,11 @@ ghost use Rattle.causes.specs.Under.{TellsUnder, TellsTo};
 ghost use Rattle.causes.specs.Beside.{Able, Listed, Worked, Leads};
 use blocks::actions;
 use definitions::Action;
-use definitions::Mode;
 use hierarchy::Plan;
 use hierarchy::Rule;
 use hierarchy::Values;
 use item::Item;
+use lockstep::Course;
 use lockstep::partings;
 use lockstep::ranks;
 use placement::rule;
@@ -59,9 +60,9 @@ fn place_cause<'a, 'b, 'c>(
     r: u32,
 ) -> u32
     requires { ⌜ Sound (now plan) ⌝ }
-    requires { ⌜ (wanted .mode ≡ Mode.Independent) × (wanted .n ≤ 16) × (r ≤ 16) × Workable (above .entry) ⌝ }
+    requires { ⌜ (wanted .n ≤ 16) × (r ≤ 16) × Inward (wanted .mode) (wanted .t) × Workable (above .entry) ⌝ }
     ensures { λ c. ⌜ TellsUnder (viewIn (now (plan .entry)) (now (old .entry))) (viewIn (now (plan .entry)) (now (new .entry)))
-        x (wanted .n) (wanted .t) (now (olds .entry)) (now (news .entry)) (above .cause) (above .entry) r c ⌝ }
+        x (wanted .mode) (wanted .n) (wanted .t) (now (olds .entry)) (now (news .entry)) (above .cause) (above .entry) r c ⌝ }
 {
     if above.cause != 0 {
         return above.cause;
@@ -75,11 +76,14 @@ fn place_cause<'a, 'b, 'c>(
         start: bucket.bucket_number(),
         r: r,
     };
-    let p = ranks::part_rank(plan, old, new, x, search, olds, news, 0);
-    partings::cause(p)
+    let k = ranks::part_rank(plan, old, new, x, search, olds, news, 0);
+    match k {
+        Course::Forked(p) => partings::cause(p),
+        Course::Shared(_) => 0,
+    }
 }
 
-// The causes of the places of an independent select that has led the two runs from p to o and n.
+// The causes of the places of a select that has led the two runs from p to o and n. Each run holds items of its own.
 fn causes_of<'a>(
     plan: &'a Plan,
     old: &'a Values,
@@ -91,16 +95,16 @@ fn causes_of<'a>(
     n: Progress,
 ) -> [u32; 16]
     requires { ⌜ Sound (now plan) ⌝ }
-    requires { ⌜ (wanted .mode ≡ Mode.Independent) × (1 ≤ wanted .n) × (wanted .n ≤ 16) × (o .len ≤ 16)
+    requires { ⌜ (1 ≤ wanted .n) × (wanted .n ≤ 16) × Inward (wanted .mode) (wanted .t) × (o .len ≤ 16)
         × ((i : ℕ) → i < o .len → Workable (getD (p .old .working) (i / wanted .n) 0)) ⌝ }
     ensures { λ cs. ⌜ TellsTo (viewIn (now (plan .entry)) (now (old .entry))) (viewIn (now (plan .entry)) (now (new .entry)))
-        x (wanted .n) (wanted .t) (o .working) (n .working) (p .causes) (p .old .working) (o .len) cs ⌝ }
+        x (wanted .mode) (wanted .n) (wanted .t) (o .items) (n .items) (p .causes) (p .old .working) (o .len) cs ⌝ }
 {
     let from = p.old;
     let working = from.working;
     let above = p.causes;
-    let olds = o.working;
-    let news = n.working;
+    let olds = o.items;
+    let news = n.items;
     let len = o.len;
     let w = wanted.n as usize;
     let mut causes: [u32; 16] = [0; 16];

@@ -7,7 +7,7 @@ use Prim.Native.Nat.{ℕ, zero, suc, _*_}
 use lib.Dec.{leb, ltb, eqb}
 use lib.ListN.{length, take}
 use Rattle.definitions.specs.declared.Mode.{Mode}
-use Rattle.definitions.specs.declared.Mode.the-variants.{FirstN, Independent}
+use Rattle.definitions.specs.declared.Mode.the-variants.{FirstN, Independent, Through}
 use Rattle.definitions.specs.declared.Action.{Action}
 use Rattle.definitions.specs.declared.Action.the-variants.{Take, Select, Emit, Idle}
 use Rattle.definitions.specs.declared.Change.{Change}
@@ -46,11 +46,12 @@ roomForFrames m space = leb (length (mapText m)) (length space)
 unfoldable pub roomForBytes : Map → List ℕ → Bool
 roomForBytes m out = leb (2 * widthOf m) (length out)
 
--- 17. "Independent selects only (edit)?"
+-- 17. "Independent selects only (edit)?"; of step 5: "and 17 admits it"
 unfoldable pub notFirstN : Action → Bool
 notFirstN (Take b) = true
 notFirstN (Select FirstN n t) = false
 notFirstN (Select Independent n t) = true
+notFirstN (Select Through n t) = true
 notFirstN Emit = true
 notFirstN Idle = true
 

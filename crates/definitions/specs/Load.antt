@@ -1,5 +1,5 @@
--- Document 01, "Questions at the door", load: questions 1 to 13, one definition each. 1 is put to the bytes, 2 to their lines, 3 and 4 to
--- the frames on these, and 5 to 13 to the map that the frames hold.
+-- Document 01, "Questions at the door", load: questions 1 to 13, and 21 of document 02 behind 11, one definition each. 1 is put to the bytes,
+-- 2 to their lines, 3 and 4 to the frames on these, and the others to the map that the frames hold.
 use mathlib.Core.Bool.{Bool, true, false, cond, not, _&&_, _||_}
 use mathlib.Core.List.{List, [], _∷_, _++_, map}
 use Prim.Native.Nat.{ℕ, zero, suc, _+_, _-_, _*_}
@@ -9,6 +9,8 @@ use Rattle.definitions.specs.declared.Device.{Device}
 use Rattle.definitions.specs.declared.Bucket.{Bucket}
 use Rattle.definitions.specs.declared.Link.{Link}
 use Rattle.definitions.specs.declared.Step.{Step}
+use Rattle.definitions.specs.declared.Mode.{Mode}
+use Rattle.definitions.specs.declared.Mode.the-variants.{FirstN, Independent, Through}
 use Rattle.definitions.specs.declared.Action.{Action}
 use Rattle.definitions.specs.declared.Action.the-variants.{Take, Select, Emit, Idle}
 use Rattle.definitions.specs.declared.Standing.{Standing}
@@ -63,12 +65,12 @@ unfoldable pub linkRanged : Link → Bool
 linkRanged l = leb (l .bucket) 255 && (ltb (l .child) 1024 || within 65536 65791 (l .child))
 
 -- "Step 1 take uses the bucket. Step 2 (select first-n) and step 3 (select independent) use n from 1 to 16 and type 0 to 254. Step 4 is
--- emit. Unused fields are zero"
+-- emit. Unused fields are zero"; "Question 5 reads step 5 as it reads step 3, type 0 included."
 unfoldable pub takeRanged : Step → Bool
 takeRanged s = eqb (s .step) 1 && eqb (s .count) 0 && eqb (s .ty) 0 && leb (s .bucket) 255
 
 unfoldable pub selectRanged : Step → Bool
-selectRanged s = within 2 3 (s .step) && within 1 16 (s .count) && leb (s .ty) 254 && eqb (s .bucket) 0
+selectRanged s = (within 2 3 (s .step) || eqb (s .step) 5) && within 1 16 (s .count) && leb (s .ty) 254 && eqb (s .bucket) 0
 
 unfoldable pub emitRanged : Step → Bool
 emitRanged s = eqb (s .step) 4 && eqb (s .count) 0 && eqb (s .ty) 0 && eqb (s .bucket) 0
@@ -127,14 +129,20 @@ unfoldable pub narrow : Map → Bool
 narrow m = every (λ (b : Bucket). leb (length (childrenOf m (b .number))) 64) (m .buckets)
 
 -- 11. "1 to 16 steps, all in blocks of take, selects, emit, types strictly falling from the bucket taken to 0?": where the rule stands
--- after one step more, and after its first k steps
+-- after one step more, and after its first k steps. "The step is the last select of its block, so question 11 lets a block end at it": a
+-- select through puts out devices, whose type is 0, and no select goes below that.
+unfoldable pub reaches : Mode → ℕ → ℕ
+reaches FirstN t = t
+reaches Independent t = t
+reaches Through t = 0
+
 unfoldable pub stand : Map → Standing → Action → Standing
 stand m Outside (Take b) = Inside (bucketType m b)
 stand m Outside (Select mode n t) = Broken
 stand m Outside Emit = Broken
 stand m Outside Idle = Broken
 stand m (Inside u) (Take b) = Broken
-stand m (Inside u) (Select mode n t) = cond (ltb t u) (Inside t) Broken
+stand m (Inside u) (Select mode n t) = cond (ltb t u) (Inside (reaches mode t)) Broken
 stand m (Inside u) Emit = cond (eqb u 0) Outside Broken
 stand m (Inside u) Idle = Broken
 stand m Broken a = Broken
@@ -150,6 +158,18 @@ isOutside Broken = false
 
 unfoldable pub inBlocks : Map → Bool
 inBlocks m = within 1 16 (length (m .steps)) && isOutside (standing m (length (m .steps)))
+
+-- 21. "Type 0 in a step 5 answers 21, asked right after question 11."
+unfoldable pub throughTyped : Action → Bool
+throughTyped (Take b) = true
+throughTyped (Select FirstN n t) = true
+throughTyped (Select Independent n t) = true
+throughTyped (Select Through n t) = ltb 0 t
+throughTyped Emit = true
+throughTyped Idle = true
+
+unfoldable pub typed : Map → Bool
+typed m = every throughTyped (actionsOf m)
 
 -- 12. "W at most 16 a block, 32 in all?"
 unfoldable pub slim : Map → Bool
@@ -177,6 +197,7 @@ mapQuestions m =
     ∷ (9, falling m)
     ∷ (10, narrow m)
     ∷ (11, inBlocks m)
+    ∷ (21, typed m)
     ∷ (12, slim m)
     ∷ (13, light m)
     ∷ []
@@ -185,6 +206,6 @@ mapQuestions m =
 unfoldable pub loadNumber : List ℕ → ℕ
 loadNumber bs = firstNo (textQuestions bs ++ mapQuestions (mapOf bs))
 
--- a map that load takes, by its record: questions 5 to 13 answered yes
+-- a map that load takes, by its record: each question behind 4 answered yes
 unfoldable pub loadable : Map → Bool
 loadable m = eqb (firstNo (mapQuestions m)) 0

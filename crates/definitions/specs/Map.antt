@@ -8,7 +8,7 @@ use Rattle.definitions.specs.declared.Bucket.{Bucket}
 use Rattle.definitions.specs.declared.Link.{Link}
 use Rattle.definitions.specs.declared.Step.{Step}
 use Rattle.definitions.specs.declared.Mode.{Mode}
-use Rattle.definitions.specs.declared.Mode.the-variants.{FirstN, Independent}
+use Rattle.definitions.specs.declared.Mode.the-variants.{FirstN, Independent, Through}
 use Rattle.definitions.specs.declared.Action.{Action}
 use Rattle.definitions.specs.declared.Action.the-variants.{Take, Select, Emit, Idle}
 use Rattle.definitions.specs.Frames.{Frame, section, field, firstField, framesIn}
@@ -58,12 +58,14 @@ abbrev pub bucketNumber : ℕ → ℕ
 bucketNumber i = i - 65536
 
 -- "Step 1 take uses the bucket. Step 2 (select first-n) and step 3 (select independent) use n .. and type .. . Step 4 is emit."
+-- "Add step 5, select through. It takes n items of a type t from 1 to 254, independent mode, and puts out a device beneath each."
 unfoldable pub actionOf : Step → Action
 actionOf s =
     cond (eqb (s .step) 1) (Take (s .bucket))
     (cond (eqb (s .step) 2) (Select FirstN (s .count) (s .ty))
     (cond (eqb (s .step) 3) (Select Independent (s .count) (s .ty))
-    (cond (eqb (s .step) 4) Emit Idle)))
+    (cond (eqb (s .step) 4) Emit
+    (cond (eqb (s .step) 5) (Select Through (s .count) (s .ty)) Idle))))
 
 unfoldable pub actionsOf : Map → List Action
 actionsOf m = map actionOf (m .steps)

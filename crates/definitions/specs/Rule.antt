@@ -18,7 +18,7 @@ pub record Run : Type 0 where
 
 -- "Take sets the working list to one bucket."
 unfoldable pub taken : ℕ → List Place
-taken b = record { entry = bucketItem b; walk = [] } ∷ []
+taken b = record { item = bucketItem b; entry = bucketItem b; walk = [] } ∷ []
 
 unfoldable pub selected : Run → Selected → Run
 selected s k = record { working = k .places; list = s .list; tries = s .tries + k .tries }

@@ -5,16 +5,17 @@ use Prim.Native.Nat.{ℕ, zero, suc, _+_}
 use lib.Dec.{eqb}
 use lib.ListN.{length, getD, replicate}
 use Rattle.definitions.specs.declared.Mode.{Mode}
-use Rattle.definitions.specs.declared.Mode.the-variants.{FirstN, Independent}
+use Rattle.definitions.specs.declared.Mode.the-variants.{FirstN, Independent, Through}
 use Rattle.definitions.specs.declared.Event.{Event}
-use Rattle.definitions.specs.declared.Ranked.{Ranked}
 use Rattle.definitions.specs.Map.{bucketNumber}
 use Rattle.definitions.specs.View.{View}
-use Rattle.definitions.specs.Walk.{hole, RankEvents, rankOf}
+use Rattle.definitions.specs.Walk.{hole, RankEvents, triesIn, rankOf}
 
 -- "A select's own places are the entries it puts out, holes included"; "A place's walk is every draw and test made for it, those of the
--- selects above it included."
+-- selects above it included." The item is what the select holds: the entry itself, or in a select through the item that the entry lies
+-- beneath.
 pub record Place : Type 0 where
+  pub item : ℕ
   pub entry : ℕ
   pub walk : List Event
 
@@ -27,26 +28,27 @@ pub record Selected : Type 0 where
 unfoldable pub entriesOf : List Place → List ℕ
 entriesOf ps = map (λ (p : Place). p .entry) ps
 
+unfoldable pub itemsOf : List Place → List ℕ
+itemsOf ps = map (λ (p : Place). p .item) ps
+
 -- the place that a rank puts out, under the place above it
 unfoldable pub placeUnder : Place → RankEvents → Place
-placeUnder above k = record { entry = k .ranked .entry; walk = above .walk ++ k .events }
+placeUnder above k = record { item = k .ranked .item; entry = k .ranked .entry; walk = above .walk ++ k .events }
 
--- "independent leaves a hole (ffff), first-n leaves out the place"
+-- "independent leaves a hole (ffff), first-n leaves out the place"; of a select through: "independent mode"
 unfoldable pub putOut : Mode → Place → List Place
 putOut Independent p = p ∷ []
+putOut Through p = p ∷ []
 putOut FirstN p = cond (eqb (p .entry) hole) [] (p ∷ [])
-
--- "every rise of f_r, and every pass"
-unfoldable pub triesIn : Ranked → ℕ
-triesIn k = k .fr + cond (eqb (k .entry) hole) 0 1
 
 -- "A hole in the working list gives n holes to an independent select and nothing to a first-n."
 unfoldable pub holesUnder : Mode → ℕ → Place → List Place
-holesUnder Independent n above = replicate n (record { entry = hole; walk = above .walk })
+holesUnder Independent n above = replicate n (record { item = hole; entry = hole; walk = above .walk })
+holesUnder Through n above = replicate n (record { item = hole; entry = hole; walk = above .walk })
 holesUnder FirstN n above = []
 
 unfoldable pub nowhere : Place
-nowhere = record { entry = hole; walk = [] }
+nowhere = record { item = hole; entry = hole; walk = [] }
 
 module _ (v : View) (x : ℕ) (mode : Mode) (n t : ℕ) where
   unfoldable pub withRank : Place → Selected → RankEvents → Selected
@@ -60,7 +62,7 @@ module _ (v : View) (x : ℕ) (mode : Mode) (n t : ℕ) where
   -- the rank r at the bucket of the place above
   unfoldable pub nextRank : Place → ℕ → Selected → Selected
   nextRank above r s =
-      withRank above s (rankOf v x mode n t (entriesOf (s .places)) (bucketNumber (above .entry)) r (s .f))
+      withRank above s (rankOf v x mode n t (itemsOf (s .places)) (bucketNumber (above .entry)) r (s .f))
 
   -- "for each bucket in it, f = 0 and ranks r = 1 to n follow": the ranks 1 to k
   unfoldable pub ranksTo : Place → Selected → ℕ → Selected

@@ -1,4 +1,5 @@
--- Document 01, "Walk, select and rule": the walk of a rank. A descent, a turn and a rank come with their events, in the order made.
+-- Document 01, "Walk, select and rule": the walk of a rank, and, by document 02, change 1, the inner walk of a select through. A descent, a
+-- test, a turn and a rank come with their events, in the order made.
 use mathlib.Core.Bool.{Bool, true, false, cond, _||_}
 use mathlib.Core.List.{List, [], _∷_, _++_}
 use Prim.Native.Nat.{ℕ, zero, suc, _+_, _-_, _*_, _%_}
@@ -6,13 +7,14 @@ use lib.Dec.{ltb, eqb}
 use Rattle.definitions.specs.declared.Drawn.{Drawn}
 use Rattle.definitions.specs.declared.Drawn.the-variants.{Winner, Nothing}
 use Rattle.definitions.specs.declared.Mode.{Mode}
-use Rattle.definitions.specs.declared.Mode.the-variants.{FirstN, Independent}
+use Rattle.definitions.specs.declared.Mode.the-variants.{FirstN, Independent, Through}
 use Rattle.definitions.specs.declared.Verdict.{Verdict}
 use Rattle.definitions.specs.declared.Verdict.the-variants.{Held, Rejected, Passed}
 use Rattle.definitions.specs.declared.Event.{Event}
 use Rattle.definitions.specs.declared.Event.the-variants.{Drew, Tested}
 use Rattle.definitions.specs.declared.Landed.{Landed}
 use Rattle.definitions.specs.declared.State.{State}
+use Rattle.definitions.specs.declared.Tried.{Tried}
 use Rattle.definitions.specs.declared.Turn.{Turn}
 use Rattle.definitions.specs.declared.Turn.the-variants.{Fill, Fail}
 use Rattle.definitions.specs.declared.Ranked.{Ranked}
@@ -79,9 +81,23 @@ unfoldable pub accepted : View → ℕ → ℕ → Bool
 accepted v x i = isBucket i || deviceAccepts v x i
 
 -- "the item is tested: it must not be held already by this select, for any bucket of the working list; and a device must pass
--- acceptance": entries are those that this select has put out so far
+-- acceptance": held are the items that this select holds so far
 unfoldable pub verdictOf : View → ℕ → List ℕ → ℕ → Verdict
-verdictOf v x entries i = cond (has i entries) Held (cond (accepted v x i) Passed Rejected)
+verdictOf v x held i = cond (has i held) Held (cond (accepted v x i) Passed Rejected)
+
+-- ---- what a test comes to
+
+-- a test, and its events
+pub record Trial : Type 0 where
+  pub tried : Tried
+  pub events : List Event
+
+-- the test of an item that is itself the entry
+unfoldable pub plain : ℕ → Verdict → Trial
+plain i w = record { tried = record { verdict = w; entry = i; inner = 0 }; events = Tested i w ∷ [] }
+
+unfoldable pub plainTest : View → ℕ → List ℕ → ℕ → ℕ → Trial
+plainTest v x held q i = plain i (verdictOf v x held i)
 
 -- ---- rank
 
@@ -93,14 +109,15 @@ pub record RankEvents : Type 0 where
   pub ranked : Ranked
   pub events : List Event
 
--- "In each draw r' is r + f_r × n (independent) or r + f (first-n)."
+-- "In each draw r' is r + f_r × n (independent) or r + f (first-n)."; of a select through: "independent mode"
 unfoldable pub tryNumber : Mode → ℕ → ℕ → State → ℕ
-tryNumber Independent n r s = r + s .fr * n
 tryNumber FirstN n r s = r + s .f
+tryNumber Independent n r s = r + s .fr * n
+tryNumber Through n r s = r + s .fr * n
 
--- "adds 1 to f_r and to f"; the next draw is at bucket b
-unfoldable pub failedTo : ℕ → State → State
-failedTo b s = record { at = b; fr = s .fr + 1; f = s .f + 1 }
+-- "adds 1 to f_r and to f"; the next draw is at bucket b, and k tries were made within the test
+unfoldable pub failedTo : ℕ → ℕ → State → State
+failedTo b k s = record { at = b; fr = s .fr + 1; f = s .f + 1; inner = s .inner + k }
 
 -- "After a held item, with f_r now below 3, the next draw is in the same bucket; otherwise it is at the rank's starting bucket."
 unfoldable pub retryAt : ℕ → ℕ → State → ℕ
@@ -108,23 +125,28 @@ retryAt start b s = cond (ltb (s .fr + 1) 3) b start
 
 -- "A rank starts with f_r = 0 at that bucket."
 unfoldable pub rankStart : ℕ → ℕ → State
-rankStart b f₀ = record { at = b; fr = 0; f = f₀ }
+rankStart b f₀ = record { at = b; fr = 0; f = f₀; inner = 0 }
 
-unfoldable pub rankEnd : ℕ → State → Ranked
-rankEnd i s = record { entry = i; fr = s .fr; f = s .f }
+-- item i is held and e put out, k tries having been made within the test
+unfoldable pub rankEnd : ℕ → ℕ → ℕ → State → Ranked
+rankEnd i e k s = record { item = i; entry = e; fr = s .fr; f = s .f; inner = s .inner + k }
 
--- "A pass fills the place. A failed test .. adds 1 to f_r and to f.": item i, drawn from bucket b
-unfoldable pub onVerdict : ℕ → State → ℕ → ℕ → Verdict → Turn
-onVerdict start s b i Held = Fail (failedTo (retryAt start b s) s)
-onVerdict start s b i Rejected = Fail (failedTo start s)
-onVerdict start s b i Passed = Fill i
+-- "A pass fills the place. A failed test .. adds 1 to f_r and to f.": item i, drawn from bucket b; e is what a pass puts out, and k tries were
+-- made within the test
+unfoldable pub onVerdict : ℕ → State → ℕ → ℕ → ℕ → ℕ → Verdict → Turn
+onVerdict start s b i e k Held = Fail (failedTo (retryAt start b s) k s)
+onVerdict start s b i e k Rejected = Fail (failedTo start k s)
+onVerdict start s b i e k Passed = Fill i e k
 
-unfoldable pub tested : ℕ → State → ℕ → List Event → ℕ → Verdict → TurnEvents
-tested start s b es i w = record { turn = onVerdict start s b i w; events = es ++ (Tested i w ∷ []) }
+unfoldable pub onTried : ℕ → State → ℕ → ℕ → Tried → Turn
+onTried start s b i w = onVerdict start s b i (w .entry) (w .inner) (w .verdict)
+
+unfoldable pub tested : ℕ → State → ℕ → List Event → ℕ → Trial → TurnEvents
+tested start s b es i w = record { turn = onTried start s b i (w .tried); events = es ++ w .events }
 
 -- "a type below t, or a draw that finds none adds 1 to f_r and to f"
 unfoldable pub untested : ℕ → State → List Event → TurnEvents
-untested start s es = record { turn = Fail (failedTo start s); events = es }
+untested start s es = record { turn = Fail (failedTo start 0 s); events = es }
 
 -- these events, and then the rest of the rank
 unfoldable pub onward : List Event → RankEvents → RankEvents
@@ -132,35 +154,73 @@ onward es rest = record { ranked = rest .ranked; events = es ++ rest .events }
 
 -- what a turn leads to: go is the rest of the rank
 unfoldable pub afterTurn : (State → RankEvents) → State → List Event → Turn → RankEvents
-afterTurn go s es (Fill i) = record { ranked = rankEnd i s; events = es }
+afterTurn go s es (Fill i e k) = record { ranked = rankEnd i e k s; events = es }
 afterTurn go s es (Fail s′) = onward es (go s′)
 
 unfoldable pub onTurn : (State → RankEvents) → State → TurnEvents → RankEvents
 onTurn go s k = afterTurn go s (k .events) (k .turn)
 
--- v, the group x, the select (mode, count n, type t), the entries that it has put out so far, the rank's starting bucket and the rank r
-module _ (v : View) (x : ℕ) (mode : Mode) (n t : ℕ) (entries : List ℕ) (start r : ℕ) where
-  -- "If the type is t, the item is tested": the last argument says whether it is t
-  unfoldable pub onType : State → ℕ → List Event → ℕ → Bool → TurnEvents
-  onType s b es i true = tested start s b es i (verdictOf v x entries i)
-  onType s b es i false = untested start s es
+-- v, the group x, the select (mode, count n, type t), what the test of an item drawn with r' comes to, the rank's starting bucket and the
+-- rank r
+module _ (v : View) (x : ℕ) (mode : Mode) (n t : ℕ) (test : ℕ → ℕ → Trial) (start r : ℕ) where
+  -- "If the type is t, the item is tested": q is r', and the last argument says whether the type is t
+  unfoldable pub onType : State → ℕ → ℕ → List Event → ℕ → Bool → TurnEvents
+  onType s q b es i true = tested start s b es i (test q i)
+  onType s q b es i false = untested start s es
 
-  unfoldable pub onLanded : State → ℕ → List Event → Drawn → TurnEvents
-  onLanded s b es (Winner i) = onType s b es i (eqb (v .type i) t)
-  onLanded s b es Nothing = untested start s es
+  unfoldable pub onLanded : State → ℕ → ℕ → List Event → Drawn → TurnEvents
+  onLanded s q b es (Winner i) = onType s q b es i (eqb (v .type i) t)
+  onLanded s q b es Nothing = untested start s es
 
-  unfoldable pub onDescent : State → Descent → TurnEvents
-  onDescent s d = onLanded s (d .landed .bucket) (d .events) (d .landed .drawn)
+  unfoldable pub onDescent : State → ℕ → Descent → TurnEvents
+  onDescent s q d = onLanded s q (d .landed .bucket) (d .events) (d .landed .drawn)
 
   -- one turn: a descent, and the test of what it comes to
   unfoldable pub turnOf : State → TurnEvents
-  turnOf s = onDescent s (descend v x t (tryNumber mode n r s) (s .at))
+  turnOf s = let q = tryNumber mode n r s in onDescent s q (descend v x t q (s .at))
 
   -- the rank from s on, with k failures left: k is 50 less f_r, since a turn that does not end the rank is one failure (`rank-ends`, crate laws)
   unfoldable pub rankFrom : ℕ → State → RankEvents
-  rankFrom zero s = record { ranked = rankEnd hole s; events = [] }
+  rankFrom zero s = record { ranked = rankEnd hole hole 0 s; events = [] }
   rankFrom (suc k) s = onTurn (rankFrom k) s (turnOf s)
 
   -- "At f_r = 50 the rank ends: independent leaves a hole": f₀ is f as the rank starts
-  unfoldable pub rankOf : ℕ → RankEvents
-  rankOf f₀ = rankFrom 50 (rankStart start f₀)
+  unfoldable pub rankBy : ℕ → RankEvents
+  rankBy f₀ = rankFrom 50 (rankStart start f₀)
+
+-- "every rise of f_r, and every pass"; "Each inner failure and inner pass is a try too."
+unfoldable pub triesIn : Ranked → ℕ
+triesIn k = k .fr + cond (eqb (k .entry) hole) 0 1 + k .inner
+
+-- ---- select through
+
+-- "an independent inner walk looks for one device beneath it. It begins at the item with the r' that drew it, each inner failure adds n, and
+-- it gives up after 50.": a rank for type 0 at item i, whose r is the r' that drew i, and whose f_r are the inner failures
+unfoldable pub innerWalk : View → ℕ → ℕ → List ℕ → ℕ → ℕ → RankEvents
+innerWalk v x n held q i = rankBy v x Independent n 0 (plainTest v x held) (bucketNumber i) q 0
+
+-- "Finding none counts as a failed test of the item.": the inner walk ended in k
+unfoldable pub found : Ranked → Tried
+found k = record { verdict = cond (eqb (k .entry) hole) Rejected Passed; entry = k .entry; inner = triesIn k }
+
+-- item i passed the held test, and k is the inner walk
+unfoldable pub sought : ℕ → RankEvents → Trial
+sought i k = record { tried = found (k .ranked); events = Tested i Passed ∷ k .events }
+
+-- "After an item passes the held test": the last argument says whether it is held
+unfoldable pub throughBy : View → ℕ → ℕ → List ℕ → ℕ → ℕ → Bool → Trial
+throughBy v x n held q i true = plain i Held
+throughBy v x n held q i false = sought i (innerWalk v x n held q i)
+
+unfoldable pub throughTest : View → ℕ → ℕ → List ℕ → ℕ → ℕ → Trial
+throughTest v x n held q i = throughBy v x n held q i (has i held)
+
+-- the test of a select: held are the items that it holds so far
+unfoldable pub testOf : Mode → View → ℕ → ℕ → List ℕ → ℕ → ℕ → Trial
+testOf FirstN v x n held q i = plainTest v x held q i
+testOf Independent v x n held q i = plainTest v x held q i
+testOf Through v x n held q i = throughTest v x n held q i
+
+-- a rank of a select
+unfoldable pub rankOf : View → ℕ → Mode → ℕ → ℕ → List ℕ → ℕ → ℕ → ℕ → RankEvents
+rankOf v x mode n t held start r f₀ = rankBy v x mode n t (testOf mode v x n held) start r f₀

@@ -29,10 +29,11 @@ pub struct Step {
     pub bucket: u32,
 }
 
-// The two ways to select.
+// The three ways to select. Through: independent, and a device beneath each item is put out.
 pub enum Mode {
     FirstN,
     Independent,
+    Through,
 }
 
 // What a step of the rule does: take a bucket; select a count of items of a type; emit. Idle is what no loaded map has.
@@ -96,24 +97,35 @@ pub struct Landed {
     pub drawn: Drawn,
 }
 
-// A rank between two turns: the bucket of the next draw, f_r and f.
+// A rank between two turns: the bucket of the next draw, f_r, f, and the tries made in inner walks so far.
 pub struct State {
     pub at: u32,
     pub fr: u32,
     pub f: u32,
+    pub inner: u32,
 }
 
-// What a turn of a rank leads to: the place is filled, or the rank goes on after one more failure.
+// What the test of an item comes to: its end, the entry that a pass puts out, and the tries made within it.
+pub struct Tried {
+    pub verdict: Verdict,
+    pub entry: u32,
+    pub inner: u32,
+}
+
+// What a turn of a rank leads to: the place is filled (the item held, the entry put out, the tries made within its test), or the rank goes
+// on after one more failure.
 pub enum Turn {
-    Fill(u32),
+    Fill(u32, u32, u32),
     Fail(State),
 }
 
-// What a rank ends in: its entry (65535 for none), f_r and f.
+// What a rank ends in: the item that it holds and its entry (65535 for none), f_r, f, and the tries made in inner walks.
 pub struct Ranked {
+    pub item: u32,
     pub entry: u32,
     pub fr: u32,
     pub f: u32,
+    pub inner: u32,
 }
 
 // ---- table, edits, moves

@@ -4,3 +4,4 @@ pub mod Demand3
 pub mod Instance
 pub mod Sample
 pub mod ThreeCauses
+pub mod Through

@@ -111,10 +111,10 @@ unfolding computing
 B-moved = refl
 
 -- what is said of the first call of a list, and of those after it, where this is its answer
-first : {rest frames table : List ℕ} {c : Call} {cs : List Call} → Each rest frames table (c ∷ cs) → Answered rest frames table c
+pub first : {rest frames table : List ℕ} {c : Call} {cs : List Call} → Each rest frames table (c ∷ cs) → Answered rest frames table c
 first (and a e) = a
 
-after : {rest frames table : List ℕ} {c : Call} {cs : List Call} {o : EditAnswer} → c .answer ≡ o → Each rest frames table (c ∷ cs)
+pub after : {rest frames table : List ℕ} {c : Call} {cs : List Call} {o : EditAnswer} → c .answer ≡ o → Each rest frames table (c ∷ cs)
     → Each rest (o .frames) (o .table) cs
 after {rest} {cs = cs} q (and a e) = subst (λ (o : EditAnswer). Each rest (o .frames) (o .table) cs) q e
 

@@ -1,4 +1,4 @@
-// Document 01, "Questions at the door": load.
+// Document 01, "Questions at the door": load; and question 21 of document 02, which is "asked right after question 11".
 ghost use mathlib.Core.Path.{_≡_};
 ghost use mathlib.Core.Bool.{true};
 ghost use Prim.Native.Nat.{_-_};
@@ -13,6 +13,7 @@ ghost use Rattle.members.specs.Levels.{Levels};
 ghost use Rattle.door.specs.Questions.{behind};
 ghost use Rattle.door.specs.Types.{typesTo};
 use blocks::standing;
+use blocks::typed;
 use blocks::widths;
 use frames::lines;
 use frames::shape;
@@ -51,7 +52,7 @@ fn types_of(table: &[u32]) -> [u32; 256]
     types
 }
 
-// The number of the first question behind 10 that is answered no, or 0: those on the rule.
+// The number of the first question behind 10 that is answered no, or 0: 11, 21 and 12, which are on the rule, and 13.
 fn behind_10(t: &[u8], s: Shape, table: &[u32]) -> u32
     requires { ⌜ Framed (now t) × (s ≡ shapeOf (framesIn (now t))) × (ranged (mapOf (now t)) ≡ true) ⌝ }
     requires { ⌜ Levels (mapOf (now t)) (now table) ⌝ }
@@ -60,6 +61,9 @@ fn behind_10(t: &[u8], s: Shape, table: &[u32]) -> u32
     let types = types_of(table);
     if !standing::in_blocks(t, s, &types) {
         return 11;
+    }
+    if !typed::typed(t, s) {
+        return 21;
     }
     if !widths::slim(t, s) {
         return 12;

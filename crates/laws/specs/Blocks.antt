@@ -1,5 +1,5 @@
 -- Document 01, question 11: in a map of blocks each step is a take outside a block, a select of a smaller type inside one, or an emit at
--- type 0; so inside a block the rule stands at the type reached, and behind a select of type 0 comes an emit. Assumes nothing.
+-- type 0; so inside a block the rule stands at the type reached, and behind a select that puts out devices comes an emit. Assumes nothing.
 use mathlib.Core.Path.{_≡_, refl, sym, ap, _∙_, subst}
 use mathlib.Core.Bool.{Bool, true, false, cond, false≢true}
 use mathlib.Core.Logic.{⊎-elim}
@@ -18,7 +18,7 @@ use Rattle.definitions.specs.declared.Standing.{Standing}
 use Rattle.definitions.specs.declared.Standing.the-variants.{Outside, Inside, Broken}
 use Rattle.definitions.specs.Map.{Map, actionOf, actionsOf}
 use Rattle.definitions.specs.View.{bucketType}
-use Rattle.definitions.specs.Load.{stand, standing, isOutside, inBlocks}
+use Rattle.definitions.specs.Load.{reaches, stand, standing, isOutside, inBlocks}
 use Rattle.laws.specs.Loadable.{in-blocks}
 
 -- ---- a step
@@ -26,7 +26,7 @@ use Rattle.laws.specs.Loadable.{in-blocks}
 -- a step that keeps to the order, between where the rule stands before it and behind it
 pub data InOrder (m : Map) : Standing → Action → Standing → Type 0 where
   takes : {b : ℕ} → InOrder m Outside (Take b) (Inside (bucketType m b))
-  selects : {u n t : ℕ} {mode : Mode} → t < u → InOrder m (Inside u) (Select mode n t) (Inside t)
+  selects : {u n t : ℕ} {mode : Mode} → t < u → InOrder m (Inside u) (Select mode n t) (Inside (reaches mode t))
   emits : InOrder m (Inside 0) Emit Outside
 
 in-order : (m : Map) (st : Standing) (a : Action) → (stand m st a ≡ Broken → ⊥) → InOrder m st a (stand m st a)
@@ -38,7 +38,8 @@ in-order m Outside Idle f = absurd (f refl)
 in-order m (Inside u) (Take b) f = absurd (f refl)
 in-order m (Inside u) (Select mode n t) f = go (ltb t u) refl f
   where
-    go : (b : Bool) → ltb t u ≡ b → (cond b (Inside t) Broken ≡ Broken → ⊥) → InOrder m (Inside u) (Select mode n t) (cond b (Inside t) Broken)
+    go : (b : Bool) → ltb t u ≡ b → (cond b (Inside (reaches mode t)) Broken ≡ Broken → ⊥)
+        → InOrder m (Inside u) (Select mode n t) (cond b (Inside (reaches mode t)) Broken)
     go true q g = selects (ltb-true t u q)
     go false q g = absurd (g refl)
 in-order m (Inside zero) Emit f = emits
@@ -87,7 +88,7 @@ module _ (m : Map) (b : inBlocks m ≡ true) where
 -- the type reached, u before it, after one action more: types gives those of the buckets
 unfoldable pub reachedBy : (ℕ → ℕ) → ℕ → Action → ℕ
 reachedBy types u (Take b) = types b
-reachedBy types u (Select mode n t) = t
+reachedBy types u (Select mode n t) = reaches mode t
 reachedBy types u Emit = u
 reachedBy types u Idle = u
 
@@ -107,7 +108,7 @@ module _ (m : Map) (b : inBlocks m ≡ true) where
       go : {st st′ : Standing} {a : Action} → InOrder m st a st′ → getD (actionsOf m) k Idle ≡ a → st′ ≡ Inside u
           → reachedBy types (reached types (actionsOf m) k) a ≡ u
       go (takes {b = i}) q f = same k i h q ∙ (let z : bucketType m i ≡ u = cc in z)
-      go (selects {t} l) q f = let z : t ≡ u = cc in z
+      go (selects {t} {mode} l) q f = let z : reaches mode t ≡ u = cc in z
       go emits q f = absurd (let z : _≡_ {A = ℕ} 0 1 = cc in omega arith)
 
   -- and an emit comes where that is 0
@@ -119,17 +120,18 @@ module _ (m : Map) (b : inBlocks m ≡ true) where
       go (selects l) q = absurd (let z : _≡_ {A = ℕ} 0 1 = cc in omega arith)
       go emits q = refl
 
-  -- a select of type 0 is the last of its block: an emit follows
-  pub emit-next : (k n : ℕ) (mode : Mode) → getD (actionsOf m) k Idle ≡ Select mode n 0 → getD (actionsOf m) (suc k) Idle ≡ Emit
+  -- a select that puts out devices is the last of its block: an emit follows
+  pub emit-next : (k n t : ℕ) (mode : Mode) → getD (actionsOf m) k Idle ≡ Select mode n t → reaches mode t ≡ 0
+      → getD (actionsOf m) (suc k) Idle ≡ Emit
   unfolding isOutside
-  emit-next k n mode e = go (decLt (suc k) (length (actionsOf m)))
+  emit-next k n t mode e devices = go (decLt (suc k) (length (actionsOf m)))
     where
       inside : k < length (actionsOf m)
       inside = step-inside (actionsOf m) k (λ q. let z : _≡_ {A = ℕ} 0 1 = cc in omega arith)
 
-      at-zero : {st st′ : Standing} {a : Action} → InOrder m st a st′ → a ≡ Select mode n 0 → st′ ≡ Inside 0
+      at-zero : {st st′ : Standing} {a : Action} → InOrder m st a st′ → a ≡ Select mode n t → st′ ≡ Inside 0
       at-zero takes q = absurd (let z : _≡_ {A = ℕ} 0 1 = cc in omega arith)
-      at-zero (selects l) q = cc
+      at-zero (selects {t = s} {mode = o} l) q = let z : reaches o s ≡ reaches mode t = cc in ap Inside (z ∙ devices)
       at-zero emits q = absurd (let z : _≡_ {A = ℕ} 0 1 = cc in omega arith)
 
       emits-there : {st st′ : Standing} {a : Action} → InOrder m st a st′ → st ≡ Inside 0 → a ≡ Emit

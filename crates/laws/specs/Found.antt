@@ -1,7 +1,7 @@
 -- Document 01, "Walk, select and rule": where entries come from. What a select puts out is a hole, or was drawn and has the wanted type;
 -- what stands in a working list is a hole, or was taken or drawn and has the type reached. So in a loadable map each entry of a group's
 -- list is a hole or a device of the map. Assumes nothing.
-use mathlib.Core.Path.{_≡_, refl, sym, ap, _∙_, subst}
+use mathlib.Core.Path.{_≡_, refl, sym, _∙_, subst}
 use mathlib.Core.Bool.{Bool, true, false, cond, _&&_}
 use mathlib.Core.List.{List, [], _∷_, _++_, List·Memᴰ, List·Memᴰ·append-cases, List·Memᴰ·eq-of-singleton, Memᴰ·of-map}
 use mathlib.Core.Logic.{_⊎_, inl, inr, ⊎-elim}
@@ -19,19 +19,21 @@ use Rattle.definitions.specs.declared.Drawn.{Drawn}
 use Rattle.definitions.specs.declared.Drawn.the-variants.{Winner, Nothing}
 use Rattle.definitions.specs.declared.Link.{Link}
 use Rattle.definitions.specs.declared.Mode.{Mode}
-use Rattle.definitions.specs.declared.Mode.the-variants.{FirstN, Independent}
+use Rattle.definitions.specs.declared.Mode.the-variants.{FirstN, Independent, Through}
 use Rattle.definitions.specs.declared.State.{State}
+use Rattle.definitions.specs.declared.Ranked.{Ranked}
 use Rattle.definitions.specs.declared.Turn.{Turn}
 use Rattle.definitions.specs.declared.Turn.the-variants.{Fill, Fail}
 use Rattle.definitions.specs.declared.Verdict.{Verdict}
 use Rattle.definitions.specs.declared.Verdict.the-variants.{Held, Rejected, Passed}
+use Rattle.definitions.specs.Lists.{has}
 use Rattle.definitions.specs.Hash.{S}
 use Rattle.definitions.specs.Map.{Map, isBucket, bucketItem, bucketNumber, actionsOf}
 use Rattle.definitions.specs.View.{View, childrenOf, weightsOf, bucketType, typeBy, typeOf, viewOf}
-use Rattle.definitions.specs.Walk.{hole, Descent, RankEvents, drawAt, landing, deeper, onWinner, onDrawn, descendIn, descend, verdictOf, tryNumber, rankEnd, onVerdict, tested, untested, onward, afterTurn, onTurn, onType, onLanded, onDescent, turnOf, rankFrom, rankOf}
-use Rattle.definitions.specs.Select.{Place, Selected, entriesOf, placeUnder, putOut, holesUnder, nowhere, withRank, nextRank, ranksTo, withHoles, selectAt, selectTo, selectOf}
+use Rattle.definitions.specs.Walk.{hole, Descent, RankEvents, drawAt, landing, deeper, onWinner, onDrawn, descendIn, descend, Trial, plain, plainTest, tryNumber, rankStart, rankEnd, onVerdict, onTried, tested, untested, onward, afterTurn, onTurn, onType, onLanded, onDescent, turnOf, rankFrom, rankBy, innerWalk, found, sought, throughBy, throughTest, testOf, rankOf}
+use Rattle.definitions.specs.Select.{Place, Selected, entriesOf, itemsOf, placeUnder, putOut, holesUnder, nowhere, withRank, nextRank, ranksTo, withHoles, selectAt, selectTo, selectOf}
 use Rattle.definitions.specs.Rule.{Run, taken, selected, act, runTo, widthOf, padded, placedBy, placedOf}
-use Rattle.definitions.specs.Load.{deviceRanged, bucketRanged, hasDevice, hasBucket, hasItem, takesPresent}
+use Rattle.definitions.specs.Load.{deviceRanged, bucketRanged, hasDevice, hasBucket, hasItem, takesPresent, reaches}
 use Rattle.laws.specs.Lists.{both, every-at}
 use Rattle.laws.specs.Members.{mem-every, mem-at}
 use Rattle.laws.specs.Counting.{number-at, lookup-is}
@@ -51,13 +53,13 @@ Found v x t e = (e ≡ hole) ⊎ (DrawnBy v x e × (v .type e ≡ t))
 no-winner : (i : ℕ) → _≡_ {A = Drawn} Nothing (Winner i) → ⊥
 no-winner i e = let z : _≡_ {A = ℕ} 0 1 = cc in omega arith
 
-no-fill : (s : State) (i : ℕ) → _≡_ {A = Turn} (Fail s) (Fill i) → ⊥
-no-fill s i e = let z : _≡_ {A = ℕ} 0 1 = cc in omega arith
+no-fill : (s : State) (i e k : ℕ) → _≡_ {A = Turn} (Fail s) (Fill i e k) → ⊥
+no-fill s i e k q = let z : _≡_ {A = ℕ} 0 1 = cc in omega arith
 
 -- ---- rank
 
+-- what a descent comes to was drawn
 module _ (v : View) (x t : ℕ) where
-  -- what a descent comes to was drawn
   descent-draws : (r k b i : ℕ) → descendIn v x t r k b .landed .drawn ≡ Winner i → DrawnBy v x i
   unfolding descendIn onDrawn onWinner landing deeper
   descent-draws r zero b i e = absurd (no-winner i e)
@@ -73,52 +75,96 @@ module _ (v : View) (x t : ℕ) where
       from (Winner j) q h rest = on j (ltb t (v .type j)) q h rest
       from Nothing q h rest = absurd (no-winner i h)
 
-  module _ (mode : Mode) (n : ℕ) (entries : List ℕ) (start r : ℕ) where
-    verdict-fills : (s : State) (b i j : ℕ) (w : Verdict) → onVerdict start s b j w ≡ Fill i → j ≡ i
-    unfolding onVerdict
-    verdict-fills s b i j Held e = absurd (no-fill _ i e)
-    verdict-fills s b i j Rejected e = absurd (no-fill _ i e)
-    verdict-fills s b i j Passed e = cc
+-- item i of type t was drawn, and its test puts out e
+record Passes (v : View) (x t : ℕ) (test : ℕ → ℕ → Trial) (i e : ℕ) : Type 0 where
+  q : ℕ
+  drawn : DrawnBy v x i
+  type : v .type i ≡ t
+  passed : test q i .tried .verdict ≡ Passed
+  entry : test q i .tried .entry ≡ e
 
-    -- a place is filled with what the descent came to, of the wanted type
-    landed-fills : (s : State) (b i : ℕ) (c : Descent) (d : Drawn) → c .landed .drawn ≡ d
-        → onLanded v x mode n t entries start r s b (c .events) d .turn ≡ Fill i
-        → (c .landed .drawn ≡ Winner i) × (v .type i ≡ t)
-    unfolding onLanded onType tested untested
-    landed-fills s b i c Nothing q e = absurd (no-fill _ i e)
-    landed-fills s b i c (Winner j) q e = go (eqb (v .type j) t) refl e
-      where
-        go : (u : Bool) → eqb (v .type j) t ≡ u → onType v x mode n t entries start r s b (c .events) j u .turn ≡ Fill i
-            → (c .landed .drawn ≡ Winner i) × (v .type i ≡ t)
-        go true h f =
-            let same : j ≡ i = verdict-fills s b i j (verdictOf v x entries j) f in
-            (q ∙ ap Winner same, rw same at (eqb-true (v .type j) t h))
-        go false h f = absurd (no-fill _ i f)
+-- a rank ends in a hole, or in an item that passes
+abbrev Ends : View → ℕ → ℕ → (ℕ → ℕ → Trial) → Ranked → Type 0
+Ends v x t test k = (k .entry ≡ hole) ⊎ Passes v x t test (k .item) (k .entry)
 
-    turn-fills : (s : State) (i : ℕ) → turnOf v x mode n t entries start r s .turn ≡ Fill i → Found v x t i
-    unfolding turnOf onDescent descend
-    turn-fills s i e =
-        let c = descend v x t (tryNumber mode n r s) (s .at) in
-        let f = landed-fills s (c .landed .bucket) i c (c .landed .drawn) refl e in
-        inr (descent-draws (tryNumber mode n r s) _ (s .at) i (f .0), f .1)
+module _ (v : View) (x : ℕ) (mode : Mode) (n t : ℕ) (test : ℕ → ℕ → Trial) (start r : ℕ) where
+  verdict-fills : (s : State) (b i e k j f l : ℕ) (w : Verdict) → onVerdict start s b i e k w ≡ Fill j f l → (w ≡ Passed) × (i ≡ j) × (e ≡ f)
+  unfolding onVerdict
+  verdict-fills s b i e k j f l Held q = absurd (no-fill _ j f l q)
+  verdict-fills s b i e k j f l Rejected q = absurd (no-fill _ j f l q)
+  verdict-fills s b i e k j f l Passed q = (refl, (let z : i ≡ j = cc in z), (let z : e ≡ f = cc in z))
 
-    rank-fills : (k : ℕ) (s : State) → Found v x t (rankFrom v x mode n t entries start r k s .ranked .entry)
-    unfolding rankFrom rankEnd onTurn afterTurn onward
-    rank-fills zero s = inl refl
-    rank-fills (suc k) s = go (turnOf v x mode n t entries start r s .turn) refl (rank-fills k)
-      where
-        after : State → RankEvents
-        after = rankFrom v x mode n t entries start r k
+  -- a place is filled with what the descent came to, of the wanted type
+  landed-fills : (s : State) (q j f l : ℕ) (c : Descent) (d : Drawn) → ((i : ℕ) → d ≡ Winner i → DrawnBy v x i)
+      → onLanded v x mode n t test start r s q (c .landed .bucket) (c .events) d .turn ≡ Fill j f l → Passes v x t test j f
+  unfolding onLanded onType tested untested onTried
+  landed-fills s q j f l c Nothing o e = absurd (no-fill _ j f l e)
+  landed-fills s q j f l c (Winner i) o e = go (eqb (v .type i) t) refl e
+    where
+      go : (u : Bool) → eqb (v .type i) t ≡ u → onType v x mode n t test start r s q (c .landed .bucket) (c .events) i u .turn ≡ Fill j f l
+          → Passes v x t test j f
+      go true h p =
+          let w = test q i .tried in
+          let (passed, same, out) = verdict-fills s (c .landed .bucket) i (w .entry) (w .inner) j f l (w .verdict) p in
+          subst (λ (y : ℕ). Passes v x t test y f) same
+          (record { q = q; drawn = o i refl; type = eqb-true (v .type i) t h; passed = passed; entry = out })
+      go false h p = absurd (no-fill _ j f l p)
 
-        go : (u : Turn) → turnOf v x mode n t entries start r s .turn ≡ u → ((z : State) → Found v x t (after z .ranked .entry))
-            → Found v x t (afterTurn after s (turnOf v x mode n t entries start r s .events) u .ranked .entry)
-        go (Fill i) e rest = turn-fills s i e
-        go (Fail z) e rest = rest z
+  turn-fills : (s : State) (j f l : ℕ) → turnOf v x mode n t test start r s .turn ≡ Fill j f l → Passes v x t test j f
+  unfolding turnOf onDescent descend
+  turn-fills s j f l e =
+      let q = tryNumber mode n r s in
+      let c = descend v x t q (s .at) in
+      landed-fills s q j f l c (c .landed .drawn) (λ i h. descent-draws v x t q _ (s .at) i h) e
 
-    -- the entry of a rank is a hole, or an item of the wanted type that was drawn
-    pub rank-found : (f₀ : ℕ) → Found v x t (rankOf v x mode n t entries start r f₀ .ranked .entry)
-    unfolding rankOf
-    rank-found f₀ = rank-fills 50 _
+  rank-fills : (k : ℕ) (s : State) → Ends v x t test (rankFrom v x mode n t test start r k s .ranked)
+  unfolding rankFrom rankEnd onTurn afterTurn onward
+  rank-fills zero s = inl refl
+  rank-fills (suc k) s = go (turnOf v x mode n t test start r s .turn) refl (rank-fills k)
+    where
+      after : State → RankEvents
+      after = rankFrom v x mode n t test start r k
+
+      go : (u : Turn) → turnOf v x mode n t test start r s .turn ≡ u → ((z : State) → Ends v x t test (after z .ranked))
+          → Ends v x t test (afterTurn after s (turnOf v x mode n t test start r s .events) u .ranked)
+      go (Fill i e j) q rest = inr (turn-fills s i e j q)
+      go (Fail z) q rest = rest z
+
+  rank-ends-in : (f₀ : ℕ) → Ends v x t test (rankBy v x mode n t test start r f₀ .ranked)
+  unfolding rankBy
+  rank-ends-in f₀ = rank-fills 50 (rankStart start f₀)
+
+module _ (v : View) (x : ℕ) (held : List ℕ) where
+  plain-found : (t i e : ℕ) → Passes v x t (plainTest v x held) i e → Found v x t e
+  unfolding plainTest plain
+  plain-found t i e P = subst (Found v x t) (P .entry) (inr (P .drawn, P .type))
+
+  -- an inner walk finds none or a device
+  inner-found : (n q i : ℕ) → Found v x 0 (innerWalk v x n held q i .ranked .entry)
+  unfolding innerWalk
+  inner-found n q i =
+      let k = innerWalk v x n held q i .ranked in
+      ⊎-elim (λ h. inl h) (λ P. plain-found 0 (k .item) (k .entry) P) (rank-ends-in v x Independent n 0 (plainTest v x held) (bucketNumber i) q 0)
+
+  -- what passes has, put out, the type that the mode reaches
+  test-found : (mode : Mode) (n t i e : ℕ) → Passes v x t (testOf mode v x n held) i e → Found v x (reaches mode t) e
+  unfolding testOf reaches throughTest throughBy plain sought found
+  test-found FirstN n t i e P = plain-found t i e P
+  test-found Independent n t i e P = plain-found t i e P
+  test-found Through n t i e P = go (has i held) (P .passed) (P .entry)
+    where
+      go : (u : Bool) → throughBy v x n held (P .q) i u .tried .verdict ≡ Passed → throughBy v x n held (P .q) i u .tried .entry ≡ e → Found v x 0 e
+      go true p s = absurd (let z : _≡_ {A = ℕ} 0 1 = cc in omega arith)
+      go false p s = subst (Found v x 0) s (inner-found n (P .q) i)
+
+  -- the entry of a rank is a hole, or an item that was drawn, of the type that the mode reaches
+  pub rank-found : (mode : Mode) (n t start r f₀ : ℕ)
+      → Found v x (reaches mode t) (rankOf v x mode n t held start r f₀ .ranked .entry)
+  unfolding rankOf
+  rank-found mode n t start r f₀ =
+      let test = testOf mode v x n held in
+      let k = rankBy v x mode n t test start r f₀ .ranked in
+      ⊎-elim (λ h. inl h) (λ P. test-found mode n t (k .item) (k .entry) P) (rank-ends-in v x mode n t test start r f₀)
 
 -- ---- select
 
@@ -146,44 +192,50 @@ module _ (P : ℕ → Type 0) where
   each-entry ps h e i = let (p, j, q) = Memᴰ·of-map (λ (p : Place). p .entry) ps i in subst P q (h p j)
 
 module _ (v : View) (x : ℕ) (mode : Mode) (n t : ℕ) where
-  abbrev Founds : List Place → Type 0
-  Founds = Entries (Found v x t)
+  -- the type that the mode reaches
+  abbrev F : ℕ → Type 0
+  F = Found v x (reaches mode t)
 
-  out-found : (o : Mode) (p : Place) → Found v x t (p .entry) → Founds (putOut o p)
+  abbrev Founds : List Place → Type 0
+  Founds = Entries F
+
+  out-found : (o : Mode) (p : Place) → F (p .entry) → Founds (putOut o p)
   unfolding putOut
-  out-found Independent p h = one (Found v x t) p h
+  out-found Independent p h = one F p h
+  out-found Through p h = one F p h
   out-found FirstN p h = go (eqb (p .entry) hole)
     where
       go : (u : Bool) → Founds (cond u [] (p ∷ []))
-      go true = none (Found v x t)
-      go false = one (Found v x t) p h
+      go true = none F
+      go false = one F p h
 
   holes-found : (o : Mode) (above : Place) → Founds (holesUnder o n above)
   unfolding holesUnder
-  holes-found Independent above = copies (Found v x t) n _ (inl refl)
-  holes-found FirstN above = none (Found v x t)
+  holes-found Independent above = copies F n _ (inl refl)
+  holes-found Through above = copies F n _ (inl refl)
+  holes-found FirstN above = none F
 
   ranks-found : (above : Place) (s : Selected) (k : ℕ) → Founds (s .places) → Founds (ranksTo v x mode n t above s k .places)
   unfolding ranksTo nextRank withRank placeUnder
   ranks-found above s zero h = h
   ranks-found above s (suc k) h =
       let o = ranksTo v x mode n t above s k in
-      more (Found v x t) (o .places) _ (ranks-found above s k h)
-      (out-found mode _ (rank-found v x t mode n (entriesOf (o .places)) (bucketNumber (above .entry)) (suc k) (o .f)))
+      more F (o .places) _ (ranks-found above s k h)
+      (out-found mode _ (rank-found v x (itemsOf (o .places)) mode n t (bucketNumber (above .entry)) (suc k) (o .f)))
 
   at-found : (above : Place) (s : Selected) (u : Bool) → Founds (s .places) → Founds (selectAt v x mode n t above s u .places)
   unfolding selectAt withHoles
-  at-found above s true h = more (Found v x t) (s .places) _ h (holes-found mode above)
+  at-found above s true h = more F (s .places) _ h (holes-found mode above)
   at-found above s false h = ranks-found above s n h
 
   to-found : (working : List Place) (k : ℕ) → Founds (selectTo v x mode n t working k .places)
   unfolding selectTo
-  to-found working zero = none (Found v x t)
+  to-found working zero = none F
   to-found working (suc k) =
       at-found (getD working k nowhere) (selectTo v x mode n t working k) (eqb (getD working k nowhere .entry) hole) (to-found working k)
 
-  -- each entry that a select puts out is a hole, or an item of the wanted type that was drawn
-  pub select-found : (working : List Place) → Entries (Found v x t) (selectOf v x mode n t working .places)
+  -- each entry that a select puts out is a hole, or an item that was drawn, of the type that the mode reaches
+  pub select-found : (working : List Place) → Entries (Found v x (reaches mode t)) (selectOf v x mode n t working .places)
   unfolding selectOf
   select-found working = to-found working (length working)
 

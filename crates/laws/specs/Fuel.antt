@@ -23,7 +23,7 @@ use Rattle.definitions.specs.Lists.{every, kept, sum}
 use Rattle.definitions.specs.Map.{Map, bucketItem, isBucket, bucketNumber}
 use Rattle.definitions.specs.View.{View, childrenOf, bucketType, typeBy, typeOf, deviceWeight, weightBy, weightIn, weightOf}
 use Rattle.definitions.specs.Load.{falling}
-use Rattle.definitions.specs.Walk.{hole, Descent, drawAt, landing, deeper, onWinner, onDrawn, descendIn, descend, verdictOf, failedTo, retryAt, rankEnd, onVerdict, tested, untested, onward, TurnEvents, RankEvents, afterTurn, onTurn, onType, onLanded, onDescent, turnOf, rankFrom}
+use Rattle.definitions.specs.Walk.{hole, Descent, drawAt, landing, deeper, onWinner, onDrawn, descendIn, descend, Trial, tryNumber, failedTo, retryAt, rankEnd, onVerdict, onTried, tested, untested, onward, TurnEvents, RankEvents, afterTurn, onTurn, onType, onLanded, onDescent, turnOf, rankFrom}
 
 -- ---- weights
 
@@ -140,49 +140,49 @@ module _ (v : View) (sinks : Sinks v) (x t r : ℕ) where
 abbrev OneMore : State → State → Type 0
 OneMore s s′ = (s′ .fr ≡ s .fr + 1) × (s′ .f ≡ s .f + 1)
 
-failed-is : (b : ℕ) (s s′ : State) → _≡_ {A = Turn} (Fail (failedTo b s)) (Fail s′) → OneMore s s′
+failed-is : (b j : ℕ) (s s′ : State) → _≡_ {A = Turn} (Fail (failedTo b j s)) (Fail s′) → OneMore s s′
 unfolding failedTo
-failed-is b s s′ e = let q : failedTo b s ≡ s′ = cc in (ap (λ (z : State). z .fr) (sym q), ap (λ (z : State). z .f) (sym q))
+failed-is b j s s′ e = let q : failedTo b j s ≡ s′ = cc in (ap (λ (z : State). z .fr) (sym q), ap (λ (z : State). z .f) (sym q))
 
-filled-not : (i : ℕ) (s′ : State) → _≡_ {A = Turn} (Fill i) (Fail s′) → ⊥
-filled-not i s′ e = let z : _≡_ {A = ℕ} 0 1 = cc in omega arith
+filled-not : (i e k : ℕ) (s′ : State) → _≡_ {A = Turn} (Fill i e k) (Fail s′) → ⊥
+filled-not i e k s′ q = let z : _≡_ {A = ℕ} 0 1 = cc in omega arith
 
-module _ (v : View) (x : ℕ) (mode : Mode) (n t : ℕ) (entries : List ℕ) (start r : ℕ) where
-  verdict-fails : (s s′ : State) (b i : ℕ) (w : Verdict) → onVerdict start s b i w ≡ Fail s′ → OneMore s s′
+module _ (v : View) (x : ℕ) (mode : Mode) (n t : ℕ) (test : ℕ → ℕ → Trial) (start r : ℕ) where
+  verdict-fails : (s s′ : State) (b i e k : ℕ) (w : Verdict) → onVerdict start s b i e k w ≡ Fail s′ → OneMore s s′
   unfolding onVerdict
-  verdict-fails s s′ b i Held e = failed-is (retryAt start b s) s s′ e
-  verdict-fails s s′ b i Rejected e = failed-is start s s′ e
-  verdict-fails s s′ b i Passed e = absurd (filled-not i s′ e)
+  verdict-fails s s′ b i e k Held q = failed-is (retryAt start b s) k s s′ q
+  verdict-fails s s′ b i e k Rejected q = failed-is start k s s′ q
+  verdict-fails s s′ b i e k Passed q = absurd (filled-not i e k s′ q)
 
-  landed-fails : (s s′ : State) (c : Descent) (d : Drawn) → onLanded v x mode n t entries start r s (c .landed .bucket) (c .events) d .turn ≡ Fail s′ → OneMore s s′
-  unfolding onLanded onType tested untested
-  landed-fails s s′ c Nothing e = failed-is start s s′ e
-  landed-fails s s′ c (Winner i) e = go (eqb (v .type i) t) e
+  landed-fails : (s s′ : State) (q : ℕ) (c : Descent) (d : Drawn) → onLanded v x mode n t test start r s q (c .landed .bucket) (c .events) d .turn ≡ Fail s′ → OneMore s s′
+  unfolding onLanded onType tested untested onTried
+  landed-fails s s′ q c Nothing e = failed-is start 0 s s′ e
+  landed-fails s s′ q c (Winner i) e = go (eqb (v .type i) t) e
     where
-      go : (u : Bool) → onType v x mode n t entries start r s (c .landed .bucket) (c .events) i u .turn ≡ Fail s′ → OneMore s s′
-      go true h = verdict-fails s s′ (c .landed .bucket) i (verdictOf v x entries i) h
-      go false h = failed-is start s s′ h
+      go : (u : Bool) → onType v x mode n t test start r s q (c .landed .bucket) (c .events) i u .turn ≡ Fail s′ → OneMore s s′
+      go true h = let w = test q i .tried in verdict-fails s s′ (c .landed .bucket) i (w .entry) (w .inner) (w .verdict) h
+      go false h = failed-is start 0 s s′ h
 
-  pub turn-fails : (s s′ : State) → turnOf v x mode n t entries start r s .turn ≡ Fail s′ → OneMore s s′
+  pub turn-fails : (s s′ : State) → turnOf v x mode n t test start r s .turn ≡ Fail s′ → OneMore s s′
   unfolding turnOf onDescent
-  turn-fails s s′ e = let c = descend v x t _ (s .at) in landed-fails s s′ c (c .landed .drawn) e
+  turn-fails s s′ e = let q = tryNumber mode n r s in let c = descend v x t q (s .at) in landed-fails s s′ q c (c .landed .drawn) e
 
   -- with k failures left, the rank ends before the last of them, or with a hole at the last
   pub rank-ends : (k : ℕ) (s : State)
-      → (rankFrom v x mode n t entries start r k s .ranked .fr < s .fr + k)
-      ⊎ ((rankFrom v x mode n t entries start r k s .ranked .entry ≡ hole) × (rankFrom v x mode n t entries start r k s .ranked .fr ≡ s .fr + k))
+      → (rankFrom v x mode n t test start r k s .ranked .fr < s .fr + k)
+      ⊎ ((rankFrom v x mode n t test start r k s .ranked .entry ≡ hole) × (rankFrom v x mode n t test start r k s .ranked .fr ≡ s .fr + k))
   unfolding rankFrom rankEnd onTurn afterTurn onward
   rank-ends zero s = inr (refl, sym (add-zero _))
-  rank-ends (suc k) s = go (turnOf v x mode n t entries start r s .turn) refl (rank-ends k)
+  rank-ends (suc k) s = go (turnOf v x mode n t test start r s .turn) refl (rank-ends k)
     where
       after : State → RankEvents
-      after = rankFrom v x mode n t entries start r k
+      after = rankFrom v x mode n t test start r k
 
-      go : (u : Turn) → turnOf v x mode n t entries start r s .turn ≡ u
+      go : (u : Turn) → turnOf v x mode n t test start r s .turn ≡ u
           → ((z : State) → (after z .ranked .fr < z .fr + k) ⊎ ((after z .ranked .entry ≡ hole) × (after z .ranked .fr ≡ z .fr + k)))
-          → (afterTurn after s (turnOf v x mode n t entries start r s .events) u .ranked .fr < s .fr + suc k)
-          ⊎ ((afterTurn after s (turnOf v x mode n t entries start r s .events) u .ranked .entry ≡ hole) × (afterTurn after s (turnOf v x mode n t entries start r s .events) u .ranked .fr ≡ s .fr + suc k))
-      go (Fill i) e rest = inl (omega arith)
+          → (afterTurn after s (turnOf v x mode n t test start r s .events) u .ranked .fr < s .fr + suc k)
+          ⊎ ((afterTurn after s (turnOf v x mode n t test start r s .events) u .ranked .entry ≡ hole) × (afterTurn after s (turnOf v x mode n t test start r s .events) u .ranked .fr ≡ s .fr + suc k))
+      go (Fill i j o) e rest = inl (omega arith)
       go (Fail z) e rest =
           let one = turn-fails s z e in
           ⊎-elim (λ h. inl (omega (arith, one .0))) (λ h. inr (h .0, omega (arith, one .0, h .1))) (rest z)

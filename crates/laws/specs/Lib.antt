@@ -13,3 +13,4 @@ pub mod Fuel
 pub mod Walk
 pub mod Forest
 pub mod Found
+pub mod Tries

@@ -21,14 +21,14 @@ use Rattle.definitions.specs.Lists.{every, someOf, linked, sum, firstNo}
 use Rattle.definitions.specs.Map.{Map, isBucket, bucketNumber, actionsOf}
 use Rattle.definitions.specs.View.{childrenOf, bucketType, typeBy, typeOf, acceptanceOf, deviceWeight}
 use Rattle.definitions.specs.Rule.{widths, widthOf}
-use Rattle.definitions.specs.Load.{within, deviceRanged, bucketRanged, linkRanged, stepRanged, ranged, linkBelow, rising, hasDevice, hasBucket, hasItem, takesPresent, present, once, falling, narrow, stand, standing, isOutside, inBlocks, slim, light, mapQuestions, loadable}
+use Rattle.definitions.specs.Load.{within, deviceRanged, bucketRanged, linkRanged, stepRanged, ranged, linkBelow, rising, hasDevice, hasBucket, hasItem, takesPresent, present, once, falling, narrow, stand, standing, isOutside, inBlocks, typed, slim, light, mapQuestions, loadable}
 use Rattle.definitions.specs.Edit.{withAcceptance, withWeight, put}
 use Rattle.definitions.specs.Calls.{fits}
 use Rattle.laws.specs.Lists.{both, every-map, every-mono}
 use Rattle.laws.specs.Questions.{answerTo, answered}
 use Rattle.laws.specs.Counting.{distinct-most, distinct-map, rising-bound, sum-bound, every-ext, some-map, linked-map, map-keeps, lookup-keeps, lookup-puts}
 
--- ---- questions 5 to 13
+-- ---- the questions that are put to the map
 
 -- a map of which each question is answered yes
 pub record Loadable (m : Map) : Type 0 where
@@ -39,6 +39,7 @@ pub record Loadable (m : Map) : Type 0 where
   pub falling : falling m ≡ true
   pub narrow : narrow m ≡ true
   pub inBlocks : inBlocks m ≡ true
+  pub typed : typed m ≡ true
   pub slim : slim m ≡ true
   pub light : light m ≡ true
 
@@ -47,12 +48,12 @@ pub loadable-is : (m : Map) → loadable m ≡ true → Loadable m
 unfolding loadable mapQuestions every answerTo
 loadable-is m e =
     let y = answered (mapQuestions m) refl (eqb-true _ _ e) in
-    record { ranged = y 5; rising = y 6; present = y 7; once = y 8; falling = y 9; narrow = y 10; inBlocks = y 11; slim = y 12; light = y 13 }
+    record { ranged = y 5; rising = y 6; present = y 7; once = y 8; falling = y 9; narrow = y 10; inBlocks = y 11; typed = y 21; slim = y 12; light = y 13 }
 
 -- and these give load's
 pub is-loadable : (m : Map) → Loadable m → loadable m ≡ true
 unfolding loadable mapQuestions firstNo
-is-loadable m l = rw (l .ranged, l .rising, l .present, l .once, l .falling, l .narrow, l .inBlocks, l .slim, l .light)
+is-loadable m l = rw (l .ranged, l .rising, l .present, l .once, l .falling, l .narrow, l .inBlocks, l .typed, l .slim, l .light)
 
 -- ---- questions taken apart
 
@@ -515,6 +516,10 @@ put-ranged m c f e =
       steps = rw (put-steps m c) (r .steps);
     })
 
+pub put-typed : (m : Map) (c : Change) → typed (put m c) ≡ typed m
+unfolding typed
+put-typed m c = rw (put-actions m c)
+
 -- a fitting edit leaves a loadable map
 pub put-loadable : (m : Map) (c : Change) → Loadable m → fits m c ≡ true → Loadable (put m c)
 put-loadable m c l f =
@@ -528,6 +533,7 @@ put-loadable m c l f =
       falling = put-falling m c ∙ l .falling;
       narrow = put-narrow m c ∙ l .narrow;
       inBlocks = put-in-blocks m c ∙ l .inBlocks;
+      typed = put-typed m c ∙ l .typed;
       slim = put-slim m c ∙ l .slim;
       light = light-always (put m c) g r;
     }

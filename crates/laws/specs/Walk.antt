@@ -1,6 +1,5 @@
 -- Document 01, "Walk, select and rule": what a draw leads to in a descent, and what a turn leads to in a rank. Assumes nothing.
 use mathlib.Core.Path.{_≡_, ap, sym, _∙_}
-use mathlib.Core.List.{List}
 use Prim.Native.Nat.{ℕ, suc, _-_, _<_, _≤_}
 use native.Mathlib.Omega.{arith}
 use borrow.Author.Tests.{lt-ltb, le-ltb, eq-eqb, ne-eqb}
@@ -9,12 +8,12 @@ use Rattle.definitions.specs.declared.Mode.{Mode}
 use Rattle.definitions.specs.declared.Landed.{Landed}
 use Rattle.definitions.specs.declared.State.{State}
 use Rattle.definitions.specs.declared.Ranked.{Ranked}
-use Rattle.definitions.specs.declared.Verdict.{Verdict}
+use Rattle.definitions.specs.declared.Tried.{Tried}
 use Rattle.definitions.specs.declared.Turn.{Turn}
 use Rattle.definitions.specs.declared.Turn.the-variants.{Fill, Fail}
 use Rattle.definitions.specs.Map.{bucketItem, bucketNumber}
 use Rattle.definitions.specs.View.{View}
-use Rattle.definitions.specs.Walk.{hole, drawAt, landing, deeper, onWinner, onDrawn, descendIn, descend, verdictOf, tryNumber, failedTo, rankEnd, onVerdict, tested, untested, onward, afterTurn, onTurn, onType, onLanded, onDescent, turnOf, rankFrom}
+use Rattle.definitions.specs.Walk.{hole, drawAt, landing, deeper, onWinner, onDrawn, descendIn, descend, Trial, tryNumber, failedTo, rankEnd, onTried, tested, untested, onward, afterTurn, onTurn, onType, onLanded, onDescent, turnOf, rankFrom}
 use Rattle.laws.specs.Fuel.{Sinks, is-bucket, descend-enough, turn-fails}
 
 -- ---- descent: what a draw leads to
@@ -55,57 +54,57 @@ module _ (v : View) (x t r b : ℕ) where
 
 -- ---- rank: what a descent leads to in a turn, and a turn in a rank
 
-module _ (v : View) (x : ℕ) (mode : Mode) (n t : ℕ) (entries : List ℕ) (start r : ℕ) where
-  -- l is where the turn's descent comes to
-  module _ (s : State) (l : Landed) (e : l ≡ descend v x t (tryNumber mode n r s) (s .at) .landed) where
+module _ (v : View) (x : ℕ) (mode : Mode) (n t : ℕ) (test : ℕ → ℕ → Trial) (start r : ℕ) where
+  -- l is where the turn's descent comes to, with the try number q
+  module _ (s : State) (q : ℕ) (try : q ≡ tryNumber mode n r s) (l : Landed) (e : l ≡ descend v x t q (s .at) .landed) where
     -- a draw of none is a failure
-    pub turn-none : l .drawn ≡ Nothing → (s′ : State) → s′ ≡ failedTo start s → Fail s′ ≡ turnOf v x mode n t entries start r s .turn
+    pub turn-none : l .drawn ≡ Nothing → (s′ : State) → s′ ≡ failedTo start 0 s → Fail s′ ≡ turnOf v x mode n t test start r s .turn
     unfolding turnOf onDescent onLanded untested
-    turn-none d s′ q = simp (← e, d, q)
+    turn-none d s′ g = simp (← try, ← e, d, g)
 
     module _ (i : ℕ) (d : l .drawn ≡ Winner i) where
       -- an item of another type is a failure
-      pub turn-other : (v .type i ≡ t → ⊥) → (s′ : State) → s′ ≡ failedTo start s → Fail s′ ≡ turnOf v x mode n t entries start r s .turn
+      pub turn-other : (v .type i ≡ t → ⊥) → (s′ : State) → s′ ≡ failedTo start 0 s → Fail s′ ≡ turnOf v x mode n t test start r s .turn
       unfolding turnOf onDescent onLanded onType untested
-      turn-other h s′ q = simp (← e, d, ne-eqb _ _ h, q)
+      turn-other h s′ g = simp (← try, ← e, d, ne-eqb _ _ h, g)
 
       -- an item of type t is tested
-      pub turn-tested : v .type i ≡ t → (w : Verdict) → w ≡ verdictOf v x entries i → (k : Turn) → k ≡ onVerdict start s (l .bucket) i w
-          → k ≡ turnOf v x mode n t entries start r s .turn
+      pub turn-tested : v .type i ≡ t → (w : Tried) → w ≡ test q i .tried → (k : Turn) → k ≡ onTried start s (l .bucket) i w
+          → k ≡ turnOf v x mode n t test start r s .turn
       unfolding turnOf onDescent onLanded onType tested
-      turn-tested h w p k q = simp (q, p, ← e, d, eq-eqb _ _ h)
+      turn-tested h w p k g = simp (g, p, ← try, ← e, d, eq-eqb _ _ h)
 
-  pub rank-fill : (k : ℕ) (s : State) (i : ℕ) → turnOf v x mode n t entries start r s .turn ≡ Fill i
-      → rankFrom v x mode n t entries start r (suc k) s .ranked ≡ rankEnd i s
+  pub rank-fill : (k : ℕ) (s : State) (i e j : ℕ) → turnOf v x mode n t test start r s .turn ≡ Fill i e j
+      → rankFrom v x mode n t test start r (suc k) s .ranked ≡ rankEnd i e j s
   unfolding rankFrom onTurn afterTurn
-  rank-fill k s i e = simp e
+  rank-fill k s i e j p = simp p
 
-  pub rank-fail : (k : ℕ) (s s′ : State) → turnOf v x mode n t entries start r s .turn ≡ Fail s′
-      → rankFrom v x mode n t entries start r (suc k) s .ranked ≡ rankFrom v x mode n t entries start r k s′ .ranked
+  pub rank-fail : (k : ℕ) (s s′ : State) → turnOf v x mode n t test start r s .turn ≡ Fail s′
+      → rankFrom v x mode n t test start r (suc k) s .ranked ≡ rankFrom v x mode n t test start r k s′ .ranked
   unfolding rankFrom onTurn afterTurn onward
   rank-fail k s s′ e = simp e
 
   -- a loop of turns that started as the rank w: what is left of it, from s on, comes to w
   module _ (w : Ranked) where
     abbrev pub Comes : State → Type 0
-    Comes s = rankFrom v x mode n t entries start r (50 - s .fr) s .ranked ≡ w
+    Comes s = rankFrom v x mode n t test start r (50 - s .fr) s .ranked ≡ w
 
-    left : (k : ℕ) (s : State) → k ≡ 50 - s .fr → Comes s → rankFrom v x mode n t entries start r k s .ranked ≡ w
+    left : (k : ℕ) (s : State) → k ≡ 50 - s .fr → Comes s → rankFrom v x mode n t test start r k s .ranked ≡ w
     left k s q h = rw q h
 
     -- a pass ends it
-    pub comes-fill : (s : State) (i : ℕ) → s .fr < 50 → Comes s → turnOf v x mode n t entries start r s .turn ≡ Fill i → rankEnd i s ≡ w
-    comes-fill s i l h e = sym (rank-fill (49 - s .fr) s i e) ∙ left (suc (49 - s .fr)) s (omega arith) h
+    pub comes-fill : (s : State) (i e j : ℕ) → s .fr < 50 → Comes s → turnOf v x mode n t test start r s .turn ≡ Fill i e j → rankEnd i e j s ≡ w
+    comes-fill s i e j l h p = sym (rank-fill (49 - s .fr) s i e j p) ∙ left (suc (49 - s .fr)) s (omega arith) h
 
     -- a failure leaves one fewer
-    pub comes-fail : (s s′ : State) → s .fr < 50 → Comes s → turnOf v x mode n t entries start r s .turn ≡ Fail s′ → Comes s′
+    pub comes-fail : (s s′ : State) → s .fr < 50 → Comes s → turnOf v x mode n t test start r s .turn ≡ Fail s′ → Comes s′
     comes-fail s s′ l h e =
-        let one = turn-fails v x mode n t entries start r s s′ e in
+        let one = turn-fails v x mode n t test start r s s′ e in
         let q : 50 - s′ .fr ≡ 49 - s .fr = omega (arith, one .0) in
-        ap (λ (k : ℕ). rankFrom v x mode n t entries start r k s′ .ranked) q
+        ap (λ (k : ℕ). rankFrom v x mode n t test start r k s′ .ranked) q
         ∙ sym (rank-fail (49 - s .fr) s s′ e) ∙ left (suc (49 - s .fr)) s (omega arith) h
 
     -- at 50 failures it ends with a hole
-    pub comes-hole : (s : State) → 50 ≤ s .fr → Comes s → rankEnd hole s ≡ w
+    pub comes-hole : (s : State) → 50 ≤ s .fr → Comes s → rankEnd hole hole 0 s ≡ w
     unfolding rankFrom
     comes-hole s l h = left 0 s (omega arith) h

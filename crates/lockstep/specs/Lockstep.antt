@@ -1,8 +1,8 @@
 -- Two walks of one place, made at once: v is what the old run reads of its map and v′ what the new run reads, and the types are the same.
 -- What is kept of the two is a `Meeting` of two descents, a `Round` of two turns and no list of events; the laws say what each says of the
--- events, and that a rank made so ends where the two ranks' events part. Assumes nothing.
+-- events, and that a rank made so ends where the two ranks part, or in what both end in. Assumes nothing.
 use mathlib.Core.Path.{_≡_, refl, sym, ap, _∙_, subst}
-use mathlib.Core.Bool.{Bool, true, false, cond}
+use mathlib.Core.Bool.{Bool, true, false, cond, _||_, false≢true}
 use mathlib.Core.List.{List, [], _∷_, _++_, append-nil}
 use Prim.Native.Nat.{ℕ, suc, _+_, _-_, _<_, _≤_}
 use native.Mathlib.Omega.{arith}
@@ -10,7 +10,9 @@ use borrow.Author.Tests.{eq-eqb, ne-eqb}
 use lib.Dec.{ltb, eqb}
 use Rattle.definitions.specs.declared.Drawn.{Drawn}
 use Rattle.definitions.specs.declared.Drawn.the-variants.{Winner, Nothing}
+use Rattle.definitions.specs.declared.Mode.the-variants.{FirstN, Independent, Through}
 use Rattle.definitions.specs.declared.Verdict.{Verdict}
+use Rattle.definitions.specs.declared.Verdict.the-variants.{Held, Passed}
 use Rattle.definitions.specs.declared.Event.{Event}
 use Rattle.definitions.specs.declared.Event.the-variants.{Drew, Tested}
 use Rattle.definitions.specs.declared.Landed.{Landed}
@@ -18,7 +20,8 @@ use Rattle.definitions.specs.declared.State.{State}
 use Rattle.definitions.specs.declared.Turn.{Turn}
 use Rattle.definitions.specs.declared.Turn.the-variants.{Fill, Fail}
 use Rattle.definitions.specs.declared.Parting.{Parting}
-use Rattle.definitions.specs.declared.Parting.the-variants.{Same, Draw, Test}
+use Rattle.definitions.specs.declared.Parting.the-variants.{Draw, Test}
+use Rattle.definitions.specs.Lists.{has}
 use Rattle.definitions.specs.Map.{bucketItem, bucketNumber}
 use Rattle.definitions.specs.View.{View}
 use Rattle.definitions.specs.Walk.{
@@ -30,12 +33,17 @@ use Rattle.definitions.specs.Walk.{
   onDrawn,
   descendIn,
   descend,
+  hole,
   verdictOf,
+  Trial,
+  plain,
+  plainTest,
   TurnEvents,
   RankEvents,
   failedTo,
   rankStart,
-  onVerdict,
+  rankEnd,
+  onTried,
   tested,
   untested,
   onward,
@@ -46,18 +54,29 @@ use Rattle.definitions.specs.Walk.{
   onDescent,
   turnOf,
   rankFrom,
+  rankBy,
+  innerWalk,
+  found,
+  sought,
+  throughBy,
+  throughTest,
+  testOf,
   rankOf,
 }
-use Rattle.definitions.specs.Edit.{sameDrawn, sameVerdict, parting}
+use Rattle.definitions.specs.Edit.{sameDrawn, sameVerdict}
 use Rattle.laws.specs.Fuel.{Sinks, descend-enough, turn-fails}
 use Rattle.laws.specs.Walk.{descend-none, descend-stop, descend-down}
 use Rattle.walk.specs.declared.Search.{Search}
-use Rattle.walk.specs.Searches.{tryAt, turnAt, rankAt}
+use Rattle.walk.specs.Searches.{innerSearch, tryAt, testAt, turnAt, rankAt}
 use Rattle.lockstep.specs.declared.Meeting.{Meeting}
 use Rattle.lockstep.specs.declared.Meeting.the-variants.{Apart, Together}
+use Rattle.lockstep.specs.declared.Trials.{Trials}
+use Rattle.lockstep.specs.declared.Trials.the-variants.{Split, Agreed}
+use Rattle.lockstep.specs.declared.Course.{Course}
+use Rattle.lockstep.specs.declared.Course.the-variants.{Forked, Shared}
 use Rattle.lockstep.specs.declared.Round.{Round}
 use Rattle.lockstep.specs.declared.Round.the-variants.{Left, Joined}
-use Rattle.lockstep.specs.Parts.{PartsTo, verdict-eq, parting-front, parting-self, parts-after, parts-before, draws-part, tests-part}
+use Rattle.lockstep.specs.Parts.{PartsTo, verdict-eq, parts-after, parts-before, draws-part, tests-part}
 
 -- ---- two descents
 
@@ -121,6 +140,86 @@ module _ (v v′ : View) (types : (i : ℕ) → v .type i ≡ v′ .type i) (sin
   meet-down i m e e′ l rest =
       rw (descend-down v x t r b sinks i e l, descend-down v′ x t r b sinks′ i e′ (rw (← types i) l)) (deeper-both r b (Winner i) m _ _ rest)
 
+-- ---- two tests
+
+-- what two trials say of two tests
+abbrev pub Tests : Trials → Trial → Trial → Type 0
+Tests (Split p) a b = PartsTo (a .events) (b .events) p
+Tests (Agreed w) a b = (a ≡ b) × (a .tried ≡ w)
+
+-- what a course says of two ranks
+abbrev pub Ranks : Course → RankEvents → RankEvents → Type 0
+Ranks (Forked p) a b = PartsTo (a .events) (b .events) p
+Ranks (Shared r) a b = (a ≡ b) × (a .ranked ≡ r)
+
+-- two tests of item i that are their verdicts
+abbrev pub plainBoth : ℕ → Verdict → Verdict → Trials
+plainBoth i w w′ = cond (sameVerdict w w′) (Agreed (plain i w .tried)) (Split (Test w w′))
+
+-- the end of the held test
+abbrev pub heldEnd : Bool → Verdict
+heldEnd h = cond h Held Passed
+
+-- two inner walks
+abbrev pub onCourse : Course → Trials
+onCourse (Forked p) = Split p
+onCourse (Shared r) = Agreed (found r)
+
+plain-both : (i : ℕ) (w w′ : Verdict) → Tests (plainBoth i w w′) (plain i w) (plain i w′)
+unfolding plain
+plain-both i w w′ = go (sameVerdict w w′) refl
+  where
+    go : (u : Bool) → sameVerdict w w′ ≡ u → Tests (cond u (Agreed (plain i w .tried)) (Split (Test w w′))) (plain i w) (plain i w′)
+    go true o = rw (← verdict-eq w w′ o) (refl, refl)
+    go false o = tests-part i w w′ [] [] o
+
+module _ (v v′ : View) (x : ℕ) (k : Search) (olds news : List ℕ) (q i : ℕ) where
+  -- the test of item i in each run
+  abbrev T : Trial
+  T = testAt v x k olds q i
+
+  abbrev T′ : Trial
+  T′ = testAt v′ x k news q i
+
+  pub tests-first : k .wanted .mode ≡ FirstN → Tests (plainBoth i (verdictOf v x olds i) (verdictOf v′ x news i)) T T′
+  unfolding testOf plainTest
+  tests-first e = rw e (plain-both i (verdictOf v x olds i) (verdictOf v′ x news i))
+
+  pub tests-independent : k .wanted .mode ≡ Independent → Tests (plainBoth i (verdictOf v x olds i) (verdictOf v′ x news i)) T T′
+  unfolding testOf plainTest
+  tests-independent e = rw e (plain-both i (verdictOf v x olds i) (verdictOf v′ x news i))
+
+  module _ (e : k .wanted .mode ≡ Through) where
+    -- the item is held in a run
+    pub tests-held : has i olds || has i news ≡ true → Tests (plainBoth i (heldEnd (has i olds)) (heldEnd (has i news))) T T′
+    unfolding testOf throughTest throughBy plain sought sameVerdict
+    tests-held h = rw e (go (has i olds) (has i news) h)
+      where
+        go : (y z : Bool) → y || z ≡ true
+            → Tests (plainBoth i (heldEnd y) (heldEnd z)) (throughBy v x (k .wanted .n) olds q i y) (throughBy v′ x (k .wanted .n) news q i z)
+        go true true o = (refl, refl)
+        go true false o = tests-part i Held Passed [] _ refl
+        go false true o = tests-part i Passed Held _ [] refl
+        go false false o = absurd (false≢true o)
+
+    -- it is held in none, and the inner walks are ranks
+    pub tests-sought : has i olds || has i news ≡ false → (c : Course)
+        → Ranks c (rankAt v x (innerSearch (k .wanted .n) q i) olds 0) (rankAt v′ x (innerSearch (k .wanted .n) q i) news 0) → Tests (onCourse c) T T′
+    unfolding testOf throughTest throughBy innerWalk sought plainTest rankOf
+    tests-sought h c r = rw e (go (has i olds) (has i news) h)
+      where
+        inner : (d : Course)
+            → Ranks d (rankAt v x (innerSearch (k .wanted .n) q i) olds 0) (rankAt v′ x (innerSearch (k .wanted .n) q i) news 0)
+            → Tests (onCourse d) (sought i (innerWalk v x (k .wanted .n) olds q i)) (sought i (innerWalk v′ x (k .wanted .n) news q i))
+        inner (Forked p) o = parts-after (Tested i Passed ∷ []) o
+        inner (Shared s) (o, z) = (ap (sought i) o, ap found z)
+
+        go : (y z : Bool) → y || z ≡ false
+            → Tests (onCourse c) (throughBy v x (k .wanted .n) olds q i y) (throughBy v′ x (k .wanted .n) news q i z)
+        go true z o = absurd (false≢true (sym o))
+        go false true o = absurd (false≢true (sym o))
+        go false false o = inner c r
+
 -- ---- two turns
 
 -- what a round says of two turns
@@ -131,10 +230,10 @@ Turns (Joined u) a b = (a ≡ b) × (a .turn ≡ u)
 module _ (v : View) (x : ℕ) (k : Search) (held : List ℕ) where
   -- the turn, from where its descent comes to; and the rank from a state on
   abbrev pub landedAt : State → ℕ → List Event → Drawn → TurnEvents
-  landedAt = onLanded v x (k .wanted .mode) (k .wanted .n) (k .wanted .t) held (k .start) (k .r)
+  landedAt s = onLanded v x (k .wanted .mode) (k .wanted .n) (k .wanted .t) (testAt v x k held) (k .start) (k .r) s (tryAt k s)
 
   abbrev pub fromAt : ℕ → State → RankEvents
-  fromAt = rankFrom v x (k .wanted .mode) (k .wanted .n) (k .wanted .t) held (k .start) (k .r)
+  fromAt = rankFrom v x (k .wanted .mode) (k .wanted .n) (k .wanted .t) (testAt v x k held) (k .start) (k .r)
 
   -- the events of a turn begin with those of its descent
   landed-begins : (s : State) (b : ℕ) (es : List Event) (d : Drawn) → (fs : List Event) × (landedAt s b es d .events ≡ es ++ fs)
@@ -143,13 +242,14 @@ module _ (v : View) (x : ℕ) (k : Search) (held : List ℕ) where
   landed-begins s b es (Winner i) = go (eqb (v .type i) (k .wanted .t))
     where
       go : (u : Bool) → (fs : List Event)
-          × (onType v x (k .wanted .mode) (k .wanted .n) (k .wanted .t) held (k .start) (k .r) s b es i u .events ≡ es ++ fs)
-      go true = (Tested i (verdictOf v x held i) ∷ [], refl)
+          × (onType v x (k .wanted .mode) (k .wanted .n) (k .wanted .t) (testAt v x k held) (k .start) (k .r) s (tryAt k s) b es i u .events ≡ es ++ fs)
+      go true = (testAt v x k held (tryAt k s) i .events, refl)
       go false = ([], sym (append-nil es))
 
 -- what two tests of item i, drawn from bucket b, make of a turn
-abbrev pub testedBoth : ℕ → State → ℕ → ℕ → Verdict → Verdict → Round
-testedBoth start s b i w w′ = cond (sameVerdict w w′) (Joined (onVerdict start s b i w)) (Left (Test w w′))
+abbrev pub onTrials : ℕ → State → ℕ → ℕ → Trials → Round
+onTrials start s b i (Split p) = Left p
+onTrials start s b i (Agreed w) = Joined (onTried start s b i w)
 
 module _ (v v′ : View) (x : ℕ) (k : Search) (olds news : List ℕ) (s : State) where
   -- the two runs: the descent of a turn, the turn, and what it makes of where its descent comes to
@@ -189,77 +289,81 @@ module _ (v v′ : View) (x : ℕ) (k : Search) (olds news : List ℕ) (s : Stat
 
   module _ (b : ℕ) (es : List Event) where
     -- "a draw that finds none"
-    pub land-none : Turns (Joined (Fail (failedTo (k .start) s))) (on b es Nothing) (on′ b es Nothing)
+    pub land-none : Turns (Joined (Fail (failedTo (k .start) 0 s))) (on b es Nothing) (on′ b es Nothing)
     unfolding onLanded untested
     land-none = (refl, refl)
 
     module _ (types : (i : ℕ) → v .type i ≡ v′ .type i) (i : ℕ) where
       -- "a type below t"
-      pub land-other : (v .type i ≡ k .wanted .t → ⊥) → Turns (Joined (Fail (failedTo (k .start) s))) (on b es (Winner i)) (on′ b es (Winner i))
+      pub land-other : (v .type i ≡ k .wanted .t → ⊥) → Turns (Joined (Fail (failedTo (k .start) 0 s))) (on b es (Winner i)) (on′ b es (Winner i))
       unfolding onLanded onType untested
       land-other h = rw (← types i, ne-eqb (v .type i) (k .wanted .t) h) (refl, refl)
 
-      -- "If the type is t, the item is tested": each run has its own acceptance, and its own entries held
-      pub land-tested : v .type i ≡ k .wanted .t → (w w′ : Verdict) → w ≡ verdictOf v x olds i → w′ ≡ verdictOf v′ x news i
-          → Turns (testedBoth (k .start) s b i w w′) (on b es (Winner i)) (on′ b es (Winner i))
+      -- "If the type is t, the item is tested"
+      pub land-tested : v .type i ≡ k .wanted .t → (m : Trials) → Tests m (testAt v x k olds (tryAt k s) i) (testAt v′ x k news (tryAt k s) i)
+          → Turns (onTrials (k .start) s b i m) (on b es (Winner i)) (on′ b es (Winner i))
       unfolding onLanded onType tested
-      land-tested h w w′ g g′ = rw (← types i, eq-eqb (v .type i) (k .wanted .t) h, ← g, ← g′) (go (sameVerdict w w′) refl)
+      land-tested h m g = rw (← types i, eq-eqb (v .type i) (k .wanted .t) h) (go m g)
         where
-          go : (u : Bool) → sameVerdict w w′ ≡ u
-              → Turns (cond u (Joined (onVerdict (k .start) s b i w)) (Left (Test w w′))) (tested (k .start) s b es i w) (tested (k .start) s b es i w′)
-          go true o = rw (← verdict-eq w w′ o) (refl, refl)
-          go false o = parts-after es (tests-part i w w′ [] [] o)
+          go : (u : Trials) → Tests u (testAt v x k olds (tryAt k s) i) (testAt v′ x k news (tryAt k s) i)
+              → Turns (onTrials (k .start) s b i u) (tested (k .start) s b es i (testAt v x k olds (tryAt k s) i)) (tested (k .start) s b es i (testAt v′ x k news (tryAt k s) i))
+          go (Split p) o = parts-after es o
+          go (Agreed w) (o, z) = (ap (tested (k .start) s b es i) o, ap (onTried (k .start) s b i) z)
 
 -- ---- two ranks
 
 -- the events of a rank begin with those of its first turn
 pub turn-begins : (go : State → RankEvents) (s : State) (es : List Event) (u : Turn) → (fs : List Event) × (afterTurn go s es u .events ≡ es ++ fs)
 unfolding afterTurn onward
-turn-begins go s es (Fill i) = ([], sym (append-nil es))
+turn-begins go s es (Fill i e k) = ([], sym (append-nil es))
 turn-begins go s es (Fail z) = (go z .events, refl)
 
-module _ (v v′ : View) (x : ℕ) (k : Search) (olds news : List ℕ) where
-  -- where two ranks part from s on, with m failures left
-  abbrev pub partFrom : ℕ → State → Parting
-  partFrom m s = parting (fromAt v x k olds m s .events) (fromAt v′ x k news m s .events)
+-- two ranks behind one list of events
+onward-both : (es : List Event) (c : Course) (a b : RankEvents) → Ranks c a b → Ranks c (onward es a) (onward es b)
+unfolding onward
+onward-both es (Forked p) a b h = parts-after es h
+onward-both es (Shared r) a b (q, z) = (ap (onward es) q, z)
 
-  module _ (s : State) (P : Parting) (lt : s .fr < 50) (from : partFrom (50 - s .fr) s ≡ P) where
+module _ (v v′ : View) (x : ℕ) (k : Search) (olds news : List ℕ) where
+  -- what holds of what is left of two ranks, from s on and with m failures left, holds of the ranks a and b
+  abbrev pub Leads : RankEvents → RankEvents → ℕ → State → Type 0
+  Leads a b m s = (c : Course) → Ranks c (fromAt v x k olds m s) (fromAt v′ x k news m s) → Ranks c a b
+
+  module _ (a b : RankEvents) (s : State) (lt : s .fr < 50) (from : Leads a b (50 - s .fr) s) where
     -- one turn of those left
-    one : partFrom (suc (50 - (s .fr + 1))) s ≡ P
+    one : Leads a b (suc (50 - (s .fr + 1))) s
     one = let e : suc (50 - (s .fr + 1)) ≡ 50 - s .fr = omega arith in rw e from
 
     -- the turns part: so do the ranks, and there
-    pub rank-parts : (p : Parting) → Turns (Left p) (turnAt v x k olds s) (turnAt v′ x k news s) → p ≡ P
+    pub rank-parts : (p : Parting) → Turns (Left p) (turnAt v x k olds s) (turnAt v′ x k news s) → Ranks (Forked p) a b
     unfolding rankFrom onTurn
     rank-parts p h =
         let m : ℕ = 50 - (s .fr + 1) in
-        let a = turnAt v x k olds s in
-        let b = turnAt v′ x k news s in
-        let (xs, q) = turn-begins (fromAt v x k olds m) s (a .events) (a .turn) in
-        let (ys, q′) = turn-begins (fromAt v′ x k news m) s (b .events) (b .turn) in
-        sym (rw (q, q′) (h .ends xs ys)) ∙ one
+        let c = turnAt v x k olds s in
+        let d = turnAt v′ x k news s in
+        let (xs, q) = turn-begins (fromAt v x k olds m) s (c .events) (c .turn) in
+        let (ys, q′) = turn-begins (fromAt v′ x k news m) s (d .events) (d .turn) in
+        one (Forked p) (rw (q, q′) (parts-before xs ys h))
 
     -- both places are filled
-    pub rank-filled : (i : ℕ) → Turns (Joined (Fill i)) (turnAt v x k olds s) (turnAt v′ x k news s) → Same ≡ P
+    pub rank-filled : (i e j : ℕ) → Turns (Joined (Fill i e j)) (turnAt v x k olds s) (turnAt v′ x k news s) → Ranks (Shared (rankEnd i e j s)) a b
     unfolding rankFrom onTurn afterTurn
-    rank-filled i (q, z) = sym (rw (← q, z) (parting-self _)) ∙ one
+    rank-filled i e j (q, z) = one (Shared (rankEnd i e j s)) (rw (← q, z) (refl, refl))
 
     -- both go on after a failure
-    pub rank-next : (s′ : State) → Turns (Joined (Fail s′)) (turnAt v x k olds s) (turnAt v′ x k news s)
-        → partFrom (50 - s′ .fr) s′ ≡ P
-    unfolding rankFrom onTurn afterTurn onward
-    rank-next s′ (q, z) =
-        let one-more = turn-fails v x (k .wanted .mode) (k .wanted .n) (k .wanted .t) olds (k .start) (k .r) s s′ z in
+    pub rank-next : (s′ : State) → Turns (Joined (Fail s′)) (turnAt v x k olds s) (turnAt v′ x k news s) → Leads a b (50 - s′ .fr) s′
+    unfolding rankFrom onTurn afterTurn
+    rank-next s′ (q, z) c h =
+        let one-more = turn-fails v x (k .wanted .mode) (k .wanted .n) (k .wanted .t) (testAt v x k olds) (k .start) (k .r) s s′ z in
         let e : 50 - s′ .fr ≡ 50 - (s .fr + 1) = omega (arith, one-more .0) in
-        ap (λ (m : ℕ). partFrom m s′) e ∙ sym (rw (← q, z) (parting-front (turnAt v x k olds s .events) _ _)) ∙ one
+        one c (rw (← q, z) (onward-both (turnAt v x k olds s .events) c _ _ (rw e at h)))
 
   -- at fifty failures both end
-  pub rank-ended : (s : State) (P : Parting) → 50 ≤ s .fr → partFrom (50 - s .fr) s ≡ P → Same ≡ P
-  unfolding rankFrom parting
-  rank-ended s P g from = let e : 50 - s .fr ≡ 0 = omega arith in sym (ap (λ (m : ℕ). partFrom m s) e) ∙ from
+  pub rank-ended : (a b : RankEvents) (s : State) → 50 ≤ s .fr → Leads a b (50 - s .fr) s → Ranks (Shared (rankEnd hole hole 0 s)) a b
+  unfolding rankFrom
+  rank-ended a b s g from = let e : 50 - s .fr ≡ 0 = omega arith in from (Shared (rankEnd hole hole 0 s)) (rw e (refl, refl))
 
   -- the whole rank
-  pub rank-whole : (f₀ : ℕ) → partFrom 50 (record { at = k .start; fr = 0; f = f₀ })
-      ≡ parting (rankAt v x k olds f₀ .events) (rankAt v′ x k news f₀ .events)
-  unfolding rankOf rankStart
-  rank-whole f₀ = refl
+  pub rank-whole : (f₀ : ℕ) → Leads (rankAt v x k olds f₀) (rankAt v′ x k news f₀) 50 (record { at = k .start; fr = 0; f = f₀; inner = 0 })
+  unfolding rankOf rankBy rankStart
+  rank-whole f₀ c h = h

@@ -10,7 +10,7 @@ use borrow.Author.Tests.{lt-ltb, le-ltb, le-leb, ltb-true, ltb-false, eqb-true, 
 use Rattle.definitions.specs.declared.Link.{Link}
 use Rattle.definitions.specs.declared.Step.{Step}
 use Rattle.definitions.specs.declared.Action.the-variants.{Select, Emit, Idle}
-use Rattle.definitions.specs.declared.Mode.the-variants.{FirstN, Independent}
+use Rattle.definitions.specs.declared.Mode.the-variants.{FirstN, Independent, Through}
 use Rattle.definitions.specs.Lists.{every}
 use Rattle.definitions.specs.Map.{Map, bucketItem, bucketNumber, actionOf, actionsOf}
 use Rattle.definitions.specs.View.{bucketType, typeBy, typeOf}
@@ -103,27 +103,39 @@ module _ (m : Map) (r : List ℕ) (h : Levels m r) where
 -- one that takes no bucket
 pub step-other : (m : Map) (p : Step) → (p .step ≡ 1 → ⊥) → true ≡ stepPresent m p
 unfolding takesPresent actionOf
-step-other m p n = rw (ne-eqb (p .step) 1 n) (go (eqb (p .step) 2) (eqb (p .step) 3) (eqb (p .step) 4))
+step-other m p n = rw (ne-eqb (p .step) 1 n) (go (eqb (p .step) 2) (eqb (p .step) 3) (eqb (p .step) 4) (eqb (p .step) 5))
   where
-    go : (a b c : Bool)
-        → true ≡ takesPresent m (cond a (Select FirstN (p .count) (p .ty)) (cond b (Select Independent (p .count) (p .ty)) (cond c Emit Idle)))
-    go true b c = refl
-    go false true c = refl
-    go false false true = refl
-    go false false false = refl
+    through : (d : Bool) → true ≡ takesPresent m (cond d (Select Through (p .count) (p .ty)) Idle)
+    through true = refl
+    through false = refl
+
+    go : (a b c d : Bool)
+        → true
+        ≡ takesPresent m
+        (cond a (Select FirstN (p .count) (p .ty)) (cond b (Select Independent (p .count) (p .ty)) (cond c Emit (cond d (Select Through (p .count) (p .ty)) Idle))))
+    go true b c d = refl
+    go false true c d = refl
+    go false false true d = refl
+    go false false false d = through d
 
 -- the bucket that a step takes is in range
 pub step-bucket : (p : Step) → stepRanged p ≡ true → p .step ≡ 1 → p .bucket ≤ 255
 unfolding stepRanged takeRanged selectRanged emitRanged
 step-bucket p r e = go (takeRanged p) refl (selectRanged p) refl r
   where
+    -- a select's number is 2 at least
+    selects : (b : Bool) → within 2 3 (p .step) ≡ b → b || eqb (p .step) 5 ≡ true → 2 ≤ p .step
+    selects true h i = leb-true 2 (p .step) (both (leb 2 (p .step)) (leb (p .step) 3) h .0)
+    selects false h i = omega (arith, eqb-true (p .step) 5 i)
+
     go : (a : Bool) → takeRanged p ≡ a → (b : Bool) → selectRanged p ≡ b → a || b || emitRanged p ≡ true → p .bucket ≤ 255
     go true h b i r = leb-true (p .bucket) 255 (both (eqb (p .step) 1 && eqb (p .count) 0 && eqb (p .ty) 0) (leb (p .bucket) 255) h .1)
     go false h true i r =
-        let a = both (within 2 3 (p .step) && within 1 16 (p .count) && leb (p .ty) 254) (eqb (p .bucket) 0) i .0 in
-        let b = both (within 2 3 (p .step) && within 1 16 (p .count)) (leb (p .ty) 254) a .0 in
-        let c = both (within 2 3 (p .step)) (within 1 16 (p .count)) b .0 in
-        absurd (omega (arith, leb-true 2 (p .step) (both (leb 2 (p .step)) (leb (p .step) 3) c .0)))
+        let s = within 2 3 (p .step) || eqb (p .step) 5 in
+        let a = both (s && within 1 16 (p .count) && leb (p .ty) 254) (eqb (p .bucket) 0) i .0 in
+        let b = both (s && within 1 16 (p .count)) (leb (p .ty) 254) a .0 in
+        let c = both s (within 1 16 (p .count)) b .0 in
+        absurd (omega (arith, selects (within 2 3 (p .step)) refl c))
     go false h false i r =
         let a = both (eqb (p .step) 4 && eqb (p .count) 0 && eqb (p .ty) 0) (eqb (p .bucket) 0) r .0 in
         let b = both (eqb (p .step) 4 && eqb (p .count) 0) (eqb (p .ty) 0) a .0 in

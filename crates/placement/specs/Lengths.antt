@@ -1,56 +1,40 @@
 -- How long the lists of a run become: a select puts out at most its count for each entry, and the list is at most what the blocks emit.
 -- Assumes nothing.
-use mathlib.Core.Path.{_≡_, refl, sym, ap, _∙_}
 use mathlib.Core.Bool.{Bool, true, false, cond}
 use mathlib.Core.List.{List, [], _∷_, _++_}
 use Prim.Native.Nat.{ℕ, zero, suc, _+_, _*_, _≤_}
 use native.Mathlib.Omega.{arith}
 use native.Mathlib.Nat.{mul-le-mul-right, le-trans}
-use lib.Dec.{eqb}
-use lib.ListN.{length, getD, replicate, length-append, length-replicate}
+use lib.ListN.{length, getD, length-append}
 use Rattle.definitions.specs.declared.Mode.{Mode}
-use Rattle.definitions.specs.declared.Mode.the-variants.{FirstN, Independent}
 use Rattle.definitions.specs.declared.Action.{Action}
-use Rattle.definitions.specs.declared.Ranked.{Ranked}
 use Rattle.definitions.specs.declared.Action.the-variants.{Take, Select, Emit, Idle}
 use Rattle.definitions.specs.View.{View}
-use Rattle.definitions.specs.Map.{bucketNumber}
-use Rattle.definitions.specs.Walk.{hole, RankEvents, rankOf}
+use Rattle.definitions.specs.Walk.{hole}
 use Rattle.blocks.specs.Products.{productAfter, addedBy, productTo, emittedTo}
-use Rattle.placement.specs.Bare.{Bare, entryOut, holesOut, bareWith, bareRank, bareRanks, bareHoles, bareAt, bareTo, bareSelect, BareRun, bareSelected, bareAct, bareRunTo}
+use Rattle.placement.specs.Bare.{Bare, leftOut, putBehind, bareWith, rankedUnder, bareRank, bareRanks, bareTo, bareSelect, BareRun, bareSelected, bareAct, bareRunTo}
 
-one-out : (mode : Mode) (e : ℕ) → length (entryOut mode e) ≤ 1
-unfolding entryOut
-one-out Independent e = omega arith
-one-out FirstN e = go (eqb e hole)
+one-more : (mode : Mode) (e : ℕ) (is : List ℕ) (i : ℕ) → length (putBehind mode e is i) ≤ length is + 1
+unfolding putBehind
+one-more mode e is i = go (leftOut mode e)
   where
-    go : (b : Bool) → length (cond b [] (e ∷ [])) ≤ 1
+    go : (b : Bool) → length (cond b is (is ++ (i ∷ []))) ≤ length is + 1
     go true = omega arith
-    go false = omega arith
-
-holes-out : (mode : Mode) (n : ℕ) → length (holesOut mode n) ≤ n
-unfolding holesOut
-holes-out Independent n = omega (arith, length-replicate n hole)
-holes-out FirstN n = omega arith
+    go false = omega (arith, length-append is (i ∷ []))
 
 module _ (v : View) (x : ℕ) (mode : Mode) (n t : ℕ) where
-  ranks-most : (a : ℕ) (s : Bare) (k : ℕ) → length (bareRanks v x mode n t a s k .entries) ≤ length (s .entries) + k
+  ranks-most : (a : ℕ) (s : Bare) (k : ℕ) → length (bareRanks v x mode n t a s k .bare .entries) ≤ length (s .entries) + k
   unfolding bareRanks bareRank bareWith
   ranks-most a s zero = omega arith
   ranks-most a s (suc k) =
       let q = bareRanks v x mode n t a s k in
-      let r = rankOf v x mode n t (q .entries) (bucketNumber a) (suc k) (q .f) .ranked in
-      omega (arith, length-append (q .entries) (entryOut mode (r .entry)), one-out mode (r .entry), ranks-most a s k)
-
-  at-most : (a : ℕ) (s : Bare) (b : Bool) → length (bareAt v x mode n t a s b .entries) ≤ length (s .entries) + n
-  unfolding bareAt bareHoles
-  at-most a s true = omega (arith, length-append (s .entries) (holesOut mode n), holes-out mode n)
-  at-most a s false = ranks-most a s n
+      let r = rankedUnder v x mode n t a (suc k) (q .bare .items) (q .f) in
+      omega (arith, one-more mode (r .entry) (q .bare .entries) (r .entry), ranks-most a s k)
 
   to-most : (ws : List ℕ) (k : ℕ) → length (bareTo v x mode n t ws k .entries) ≤ k * n
   unfolding bareTo
   to-most ws zero = omega arith
-  to-most ws (suc k) = omega (arith, at-most (getD ws k hole) (bareTo v x mode n t ws k) (eqb (getD ws k hole) hole), to-most ws k)
+  to-most ws (suc k) = omega (arith, ranks-most (getD ws k hole) (bareTo v x mode n t ws k) n, to-most ws k)
 
   select-most : (ws : List ℕ) → length (bareSelect v x mode n t ws .entries) ≤ length ws * n
   unfolding bareSelect

@@ -5,21 +5,23 @@ use mathlib.Core.List.{List}
 use Prim.Native.Nat.{ℕ, suc, _+_, _<_, _≤_}
 use native.Mathlib.Omega.{arith}
 use lib.ListN.{length, getD}
-use borrow.Author.Tests.{le-leb}
+use borrow.Author.Tests.{le-leb, ltb-true}
 use Rattle.definitions.specs.declared.Action.{Action}
-use Rattle.definitions.specs.declared.Action.the-variants.{Idle}
+use Rattle.definitions.specs.declared.Action.the-variants.{Select, Idle}
+use Rattle.definitions.specs.declared.Mode.{Mode}
 use Rattle.definitions.specs.declared.Standing.{Standing}
 use Rattle.definitions.specs.declared.Standing.the-variants.{Inside}
 use Rattle.definitions.specs.Map.{Map, bucketNumber, actionsOf}
 use Rattle.definitions.specs.View.{View, typeBy, typeOf, viewOf}
 use Rattle.definitions.specs.Select.{entriesOf}
 use Rattle.definitions.specs.Rule.{widthOf, placedOf}
-use Rattle.definitions.specs.Load.{hasItem, takesPresent, standing}
+use Rattle.definitions.specs.Load.{hasItem, takesPresent, standing, throughTyped, typed}
 use Rattle.laws.specs.Lists.{every-at}
 use Rattle.laws.specs.Loadable.{Loadable, present-is, slim-is}
 use Rattle.laws.specs.Blocks.{InOrder, takes, selects, emits, length-actions, step-in-order, reached-inside}
 use Rattle.laws.specs.Found.{present-typed, drawn-present}
 use Rattle.hierarchy.specs.Arrays.{bucketTypeIn, typesIn, viewIn, Sound}
+use Rattle.walk.specs.Searches.{Inward}
 use Rattle.blocks.specs.Actions.{ActionRanged, action-ranged}
 use Rattle.blocks.specs.Standing.{TypesOf}
 use Rattle.blocks.specs.Products.{productTo, emittedTo, productAfter, product-small, sum-small, emitted-all}
@@ -34,6 +36,11 @@ grounded m L =
       above = λ x r b i e h. rw (le-leb 65536 i h) (present-typed m L (bucketNumber i) (rw (le-leb 65536 i h) at (drawn-present m L x i (r, b, e))));
     }
 
+-- by question 21 a select through has a type above 0
+typed-inward : (mode : Mode) (n t : ℕ) → throughTyped (Select mode n t) ≡ true → Inward mode t
+unfolding throughTyped
+typed-inward mode n t y e = ltb-true 0 t (rw e at y)
+
 module _ (m : Map) (L : Loadable m) (plan : List ℕ) (of : TypesOf m (typesIn plan)) where
   ranged-step : (k : ℕ) → k < length (actionsOf m) → ActionRanged (getD (actionsOf m) k Idle)
   ranged-step k h = action-ranged m k (getD (actionsOf m) k Idle) (L .ranged) (omega (arith, length-actions m)) refl
@@ -43,21 +50,21 @@ module _ (m : Map) (L : Loadable m) (plan : List ℕ) (of : TypesOf m (typesIn p
   reached-stand = reached-inside m (L .inBlocks) (λ (b : ℕ). bucketTypeIn plan b) (λ k b h e. of b (rw e at (ranged-step k h)))
 
   -- what a step keeps to, by how it keeps to the order
-  keeps-in-order : {st st′ : Standing} {a : Action} (p e t : ℕ) → InOrder m st a st′ → ActionRanged a → takesPresent m a ≡ true
+  keeps-in-order : {st st′ : Standing} {a : Action} (p e t : ℕ) → InOrder m st a st′ → ActionRanged a → takesPresent m a ≡ true → throughTyped a ≡ true
       → ((u : ℕ) → st ≡ Inside u → (t ≡ u) × (e + p ≤ 32)) → productAfter p a ≤ 16 → Keeps plan p e t a
   unfolding takesPresent productAfter
-  keeps-in-order p e t (takes {b}) r k i w = (r, omega (arith, of b r, present-typed m L b k))
-  keeps-in-order p e t (selects {u} l) r k i w = (r .0, r .1, w, omega (arith, i u refl .0))
-  keeps-in-order p e t emits r k i w = (i 0 refl .1, i 0 refl .0)
+  keeps-in-order p e t (takes {b}) r k y i w = (r, omega (arith, of b r, present-typed m L b k))
+  keeps-in-order p e t (selects {u} {n} {t = s} {mode} l) r k y i w = (r .0, r .1, w, omega (arith, i u refl .0), typed-inward mode n s y)
+  keeps-in-order p e t emits r k y i w = (i 0 refl .1, i 0 refl .0)
 
   pub ruled : Ruled plan (actionsOf m)
-  unfolding productTo
+  unfolding productTo typed
   ruled =
       record {
         keeps = λ k h.
             let xs = actionsOf m in
             keeps-in-order (productTo xs k) (emittedTo xs k) (reachedTo plan xs k) (step-in-order m (L .inBlocks) k h) (ranged-step k h)
-            (every-at (takesPresent m) xs k Idle (present-is m (L .present) .takes) h)
+            (every-at (takesPresent m) xs k Idle (present-is m (L .present) .takes) h) (every-at throughTyped xs k Idle (L .typed) h)
             (λ u e. (reached-stand k u (omega arith) e, sum-small m (L .ranged) (L .inBlocks) (L .slim) k u (omega arith) e))
             (product-small m (L .ranged) (L .inBlocks) (L .slim) (suc k) (omega arith));
       }

@@ -1,6 +1,6 @@
 -- What the code keeps of a run, as the run without its walks. Assumes nothing.
 use mathlib.Core.Path.{_≡_, refl, sym, ap, _∙_}
-use mathlib.Core.List.{List, [], _∷_}
+use mathlib.Core.List.{List}
 use Prim.Native.Nat.{ℕ, _+_, _*_, _<_, _≤_}
 use native.Mathlib.Omega.{arith}
 use native.Mathlib.Numerals.{add-one}
@@ -16,6 +16,7 @@ use Rattle.definitions.specs.View.{View}
 use Rattle.hierarchy.specs.declared.Rule.{Rule}
 use Rattle.hierarchy.specs.Arrays.{viewIn, actionsIn}
 use Rattle.laws.specs.Lists.{getD-mapped}
+use Rattle.walk.specs.Searches.{Inward}
 use Rattle.blocks.specs.Products.{productAfter, addedBy, productTo, emittedTo}
 use Rattle.placement.specs.declared.rule.Progress.{Progress}
 use Rattle.placement.specs.Bare.{Bare, BareRun, bareSelect, bareSelected, bareAct, bareRunTo}
@@ -23,9 +24,9 @@ use Rattle.placement.specs.Entries.{Each}
 use Rattle.placement.specs.Ruled.{Keeps, Ready, reachedTo}
 use Rattle.placement.specs.Working.{Workable, working-workable}
 
--- the two lists are the first of the arrays
+-- the lists are the first of the arrays
 abbrev pub runIn : Progress → BareRun
-runIn p = record { working = take (p .len) (p .working); list = take (p .emitted) (p .list); tries = p .tries }
+runIn p = record { items = take (p .len) (p .items); working = take (p .len) (p .working); list = take (p .emitted) (p .list); tries = p .tries }
 
 -- and stand within them
 abbrev pub Room : Progress → Type 0
@@ -34,7 +35,7 @@ Room p = (p .len ≤ 16) × (p .emitted ≤ 32)
 -- there is room for what action a does, and it can be done
 abbrev pub Doable : Progress → Action → Type 0
 Doable p (Take b) = b < 256
-Doable p (Select mode n t) = (1 ≤ n) × (n ≤ 16) × (p .len * n ≤ 16) × Each Workable (take (p .len) (p .working))
+Doable p (Select mode n t) = (1 ≤ n) × (n ≤ 16) × (p .len * n ≤ 16) × Each Workable (take (p .len) (p .working)) × Inward mode t
 Doable p Emit = p .emitted + p .len ≤ 32
 Doable p Idle = Unit {0}
 
@@ -42,7 +43,7 @@ Doable p Idle = Unit {0}
 pub record Stepped (p : Progress) (a : Action) (q : Progress) : Type 0 where
   pub len : q .len ≤ productAfter (p .len) a
   pub emitted : q .emitted ≤ p .emitted + addedBy (p .len) a
-  pub tries : q .tries ≤ p .tries + 816
+  pub tries : q .tries ≤ p .tries + 40800
 
 -- q is what action a makes of p
 abbrev pub Acted : View → ℕ → Progress → Action → Progress → Type 0
@@ -51,24 +52,22 @@ Acted v x p a q = (runIn q ≡ bareAct v x (runIn p) a) × Room q × Stepped p a
 -- ---- what an action makes of the arrays
 
 module _ (v : View) (x : ℕ) (p : Progress) where
-  pub run-take : (b i : ℕ) → 0 < length (p .working) → i ≡ bucketItem b
-      → record { working = take 1 (set (p .working) 0 i); list = take (p .emitted) (p .list); tries = p .tries } ≡ bareAct v x (runIn p) (Take b)
+  pub run-take : (b i : ℕ) → 0 < length (p .items) → 0 < length (p .working) → i ≡ bucketItem b
+      → record { items = take 1 (set (p .items) 0 i); working = take 1 (set (p .working) 0 i); list = take (p .emitted) (p .list); tries = p .tries } ≡ bareAct v x (runIn p) (Take b)
   unfolding bareAct
-  run-take b i h e =
-      ap (λ (l : List ℕ). record { working = l; list = take (p .emitted) (p .list); tries = p .tries })
-      (take-suc-set (p .working) 0 i h ∙ ap (λ (k : ℕ). k ∷ []) e)
+  run-take b i g h e = rw (take-suc-set (p .items) 0 i g, take-suc-set (p .working) 0 i h, e)
 
   pub run-select : (mode : Mode) (n t : ℕ) (k : Bare) → k ≡ bareSelect v x mode n t (take (p .len) (p .working))
-      → record { working = k .entries; list = take (p .emitted) (p .list); tries = p .tries + k .tries } ≡ bareAct v x (runIn p) (Select mode n t)
+      → record { items = k .items; working = k .entries; list = take (p .emitted) (p .list); tries = p .tries + k .tries } ≡ bareAct v x (runIn p) (Select mode n t)
   unfolding bareAct bareSelected
-  run-select mode n t k e = ap (λ (b : Bare). record { working = b .entries; list = take (p .emitted) (p .list); tries = p .tries + b .tries }) e
+  run-select mode n t k e = ap (λ (b : Bare). record { items = b .items; working = b .entries; list = take (p .emitted) (p .list); tries = p .tries + b .tries }) e
 
   pub run-emit : (list : List ℕ) (j : ℕ) → j ≡ p .len → p .len ≤ length (p .working) → p .emitted ≤ length (p .list)
       → list ≡ paste (p .list) (p .emitted) (p .working) j
-      → record { working = take (p .len) (p .working); list = take (p .emitted + p .len) list; tries = p .tries } ≡ bareAct v x (runIn p) Emit
+      → record { items = take (p .len) (p .items); working = take (p .len) (p .working); list = take (p .emitted + p .len) list; tries = p .tries } ≡ bareAct v x (runIn p) Emit
   unfolding bareAct
   run-emit list j e h g q =
-      ap (λ (l : List ℕ). record { working = take (p .len) (p .working); list = l; tries = p .tries })
+      ap (λ (l : List ℕ). record { items = take (p .len) (p .items); working = take (p .len) (p .working); list = l; tries = p .tries })
       (ap (take (p .emitted + p .len)) (q ∙ ap (λ (k : ℕ). paste (p .list) (p .emitted) (p .working) k) e)
       ∙ take-paste (p .list) (p .emitted) (p .working) (p .len) g h)
 
@@ -97,12 +96,12 @@ pub record Ran (v : View) (x : ℕ) (actions : List Action) (k : ℕ) (p : Progr
   pub room : Room p
   pub len : p .len ≤ productTo actions k
   pub emitted : p .emitted ≤ emittedTo actions k
-  pub tries : p .tries ≤ k * 816
+  pub tries : p .tries ≤ k * 40800
 
 module _ (v : View) (x : ℕ) (actions : List Action) where
-  pub ran-start : (ws ls : List ℕ) → Ran v x actions 0 (record { working = ws; len = 0; list = ls; emitted = 0; tries = 0 })
+  pub ran-start : (is ws ls : List ℕ) → Ran v x actions 0 (record { items = is; working = ws; len = 0; list = ls; emitted = 0; tries = 0 })
   unfolding bareRunTo
-  ran-start ws ls = record { is = refl; room = (omega arith, omega arith); len = omega arith; emitted = omega arith; tries = omega arith }
+  ran-start is ws ls = record { is = refl; room = (omega arith, omega arith); len = omega arith; emitted = omega arith; tries = omega arith }
 
   product-mono : (a : Action) (p q : ℕ) → p ≤ q → productAfter p a ≤ productAfter q a
   unfolding productAfter
@@ -145,6 +144,7 @@ module _ {plan values : List ℕ} {actions : List Action} (ready : Ready plan va
         q .1,
         omega (arith, mul-le-mul-right n (r .len), q .2),
         working-workable ready x k (runIn p) (omega arith) (r .is) (q .3),
+        q .4,
       )
       go Emit q = omega (arith, q .0, r .len, r .emitted)
       go Idle q = tt

@@ -10,6 +10,7 @@ use Rattle.definitions.specs.View.{View}
 use Rattle.definitions.specs.Walk.{drawAt}
 use Rattle.hierarchy.specs.Arrays.{bucketTypeIn, viewIn, Sound}
 use Rattle.laws.specs.Blocks.{reached}
+use Rattle.walk.specs.Searches.{Inward}
 use Rattle.blocks.specs.Products.{productTo, emittedTo}
 
 -- the type reached after the first k actions
@@ -19,7 +20,7 @@ reachedTo plan actions k = reached (bucketTypeIn plan) actions k
 -- what an action keeps to: p is the most places that the working list can have, e the most that are emitted, and u the type reached
 abbrev pub Keeps : List ℕ → ℕ → ℕ → ℕ → Action → Type 0
 Keeps plan p e u (Take b) = (b < 256) × (0 < bucketTypeIn plan b)
-Keeps plan p e u (Select mode n t) = (1 ≤ n) × (n ≤ 16) × (p * n ≤ 16) × (0 < u)
+Keeps plan p e u (Select mode n t) = (1 ≤ n) × (n ≤ 16) × (p * n ≤ 16) × (0 < u) × Inward mode t
 Keeps plan p e u Emit = (e + p ≤ 32) × (u ≡ 0)
 Keeps plan p e u Idle = Unit {0}
 

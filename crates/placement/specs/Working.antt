@@ -14,6 +14,7 @@ use Rattle.definitions.specs.View.{View}
 use Rattle.definitions.specs.Walk.{hole}
 use Rattle.definitions.specs.Select.{selectOf}
 use Rattle.definitions.specs.Rule.{runTo}
+use Rattle.definitions.specs.Load.{reaches}
 use Rattle.laws.specs.Found.{DrawnBy, Reached, select-found, working-reached, list-reached}
 use Rattle.hierarchy.specs.Arrays.{bucketTypeIn, typeIn, viewIn, ItemRange, Sound}
 use Rattle.descent.specs.Descent.{type-bucket, type-device, winner-range}
@@ -31,7 +32,7 @@ pub bucket-of : (e : ℕ) → Workable e → (e ≡ hole → ⊥) → (65536 ≤
 bucket-of e (inl h) n = absurd (n h)
 bucket-of e (inr h) n = h
 
--- an entry that a select for type t puts out: a hole, or an item in range of that type
+-- an entry that a select puts out which reaches type t: a hole, or an item in range of that type
 abbrev pub Entry : List ℕ → ℕ → ℕ → Type 0
 Entry plan t e = (e ≡ hole) ⊎ Typed plan t e
 
@@ -42,12 +43,13 @@ Small e = e < 65536
 -- ---- the entries of a select
 
 pub select-entries : {plan : List ℕ} → Sound plan → (values : List ℕ) (x : ℕ) (mode : Mode) (n t : ℕ) (working : List ℕ)
-    → Each (Entry plan t) (bareSelect (viewIn plan values) x mode n t working .entries)
+    → Each (Entry plan (reaches mode t)) (bareSelect (viewIn plan values) x mode n t working .entries)
 select-entries {plan} sound values x mode n t working =
     let v = viewIn plan values in
+    let u = reaches mode t in
     let (ps, e) = walkless working in
-    subst (λ (b : Bare). Each (Entry plan t) (b .entries)) (select-bare v x mode n t ps ∙ ap (bareSelect v x mode n t) e)
-    (each-place (Entry plan t) (selectOf v x mode n t ps .places)
+    subst (λ (b : Bare). Each (Entry plan u) (b .entries)) (select-bare v x mode n t ps ∙ ap (bareSelect v x mode n t) e)
+    (each-place (Entry plan u) (selectOf v x mode n t ps .places)
     (λ p i. ⊎-elim (λ q. inl q) (λ ((r, b, d), q). inr (winner-range sound values x r b (p .entry) d, q)) (select-found v x mode n t ps p i)))
 
 -- ---- the lists of a run

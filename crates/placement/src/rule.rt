@@ -21,9 +21,12 @@ use hierarchy::Plan;
 use hierarchy::Rule;
 use hierarchy::Values;
 use item::Item;
+use walk::Wanted;
 
-// The working list (the first `len` entries), the list emitted so far (the first `emitted`), and the tries so far.
+// The working list (the first `len` entries) with the items that its select holds, the list emitted so far (the first `emitted`), and the
+// tries so far.
 pub struct Progress {
+    pub items: [u32; 16],
     pub working: [u32; 16],
     pub len: usize,
     pub list: [u32; 32],
@@ -38,9 +41,12 @@ fn take_bucket(p: Progress, b: u32) -> Progress
 {
     let i = Item::bucket(b);
     let list = p.list;
+    let mut items = p.items;
     let mut working = p.working;
+    items[0] = i.number;
     working[0] = i.number;
     Progress {
+        items: items,
         working: working,
         len: 1,
         list: list,
@@ -65,9 +71,12 @@ fn selected<'a>(
 {
     let list = p.list;
     let working = p.working;
-    let c = select::select(plan, values, x, working, p.len, mode, n, t);
+    let wanted = Wanted { mode, n, t };
+    let c = select::select(plan, values, x, working, p.len, wanted);
+    let items = c.items;
     let entries = c.entries;
     Progress {
+        items: items,
         working: entries,
         len: c.len,
         list: list,
@@ -94,10 +103,12 @@ fn emit(p: Progress) -> Progress
     requires { ⌜ Room p × (p .emitted + p .len ≤ 32) ⌝ }
     ensures { λ q. ⌜ ((v : View) (x : ℕ) → runIn q ≡ bareAct v x (runIn p) Action.Emit) × Room q × Stepped p Action.Emit q ⌝ }
 {
+    let items = p.items;
     let working = p.working;
     let list = p.list;
     let longer = append(list, p.emitted, working, p.len);
     Progress {
+        items: items,
         working: working,
         len: p.len,
         list: longer,
@@ -125,6 +136,7 @@ pub fn start() -> Progress
     ensures { λ p. ⌜ ((v : View) (x : ℕ) (actions : List Action) → Ran v x actions 0 p) × (p .len ≡ 0) × (p .emitted ≡ 0) ⌝ }
 {
     Progress {
+        items: [walk::HOLE; 16],
         working: [walk::HOLE; 16],
         len: 0,
         list: [walk::HOLE; 32],

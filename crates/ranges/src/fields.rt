@@ -39,10 +39,11 @@ fn take_ranged(s: Step) -> bool
     (s.step == 1) & (s.count == 0) & (s.ty == 0) & (s.bucket < Item::BUCKETS)
 }
 
+// "Question 5 reads step 5 as it reads step 3, type 0 included."
 fn select_ranged(s: Step) -> bool
     ensures { λ r. ⌜ r ≡ selectRanged s ⌝ }
 {
-    let step = (2 <= s.step) & (s.step <= 3);
+    let step = ((2 <= s.step) & (s.step <= 3)) | (s.step == 5);
     let count = (1 <= s.count) & (s.count <= 16);
     step & count & (s.ty <= 254) & (s.bucket == 0)
 }

@@ -50,7 +50,7 @@ link-good l e =
 
 -- each field of a step in range is small
 record StepSmall (s : Step) : Type 0 where
-  step : s .step ≤ 4
+  step : s .step ≤ 5
   count : s .count ≤ 16
   ty : s .ty ≤ 254
   bucket : s .bucket ≤ 255
@@ -81,11 +81,13 @@ step-small s e =
       bucket = leb-true _ _ (q .3);
     })
     (λ t.
-    let q = four (within 2 3 (s .step)) (within 1 16 (s .count)) (leb (s .ty) 254) (eqb (s .bucket) 0) t in
-    let a = both (leb 2 (s .step)) (leb (s .step) 3) (q .0) in
+    let q = four (within 2 3 (s .step) || eqb (s .step) 5) (within 1 16 (s .count)) (leb (s .ty) 254) (eqb (s .bucket) 0) t in
+    let a : s .step ≤ 5 =
+    ⊎-elim (λ h. omega (arith, leb-true (s .step) 3 (both (leb 2 (s .step)) (leb (s .step) 3) h .1))) (λ h. omega (arith, eqb-true (s .step) 5 h))
+    (either (within 2 3 (s .step)) (eqb (s .step) 5) (q .0)) in
     let b = both (leb 1 (s .count)) (leb (s .count) 16) (q .1) in
     record {
-      step = omega (arith, leb-true (s .step) 3 (a .1));
+      step = a;
       count = leb-true _ _ (b .1);
       ty = leb-true _ _ (q .2);
       bucket = omega (arith, eqb-true (s .bucket) 0 (q .3));

@@ -5,7 +5,7 @@ use mathlib.Core.List.{List, _++_}
 use Prim.Native.Nat.{ℕ}
 use Rattle.definitions.specs.Lists.{every, firstNo}
 use Rattle.definitions.specs.Map.{mapOf}
-use Rattle.definitions.specs.Load.{ranged, rising, present, once, falling, narrow, inBlocks, slim, light, textQuestions, mapQuestions, loadNumber}
+use Rattle.definitions.specs.Load.{ranged, rising, present, once, falling, narrow, inBlocks, typed, slim, light, textQuestions, mapQuestions, loadNumber}
 use Rattle.laws.specs.Questions.{answerTo, answered}
 use Rattle.text.specs.RoundTrip.{Framed}
 
@@ -24,6 +24,7 @@ pub record Loaded (t : List ℕ) : Type 0 where
   pub falling : falling (mapOf t) ≡ true
   pub narrow : narrow (mapOf t) ≡ true
   pub inBlocks : inBlocks (mapOf t) ≡ true
+  pub typed : typed (mapOf t) ≡ true
   pub slim : slim (mapOf t) ≡ true
   pub light : light (mapOf t) ≡ true
 
@@ -41,6 +42,7 @@ loaded t e =
       falling = y 9;
       narrow = y 10;
       inBlocks = y 11;
+      typed = y 21;
       slim = y 12;
       light = y 13;
     }

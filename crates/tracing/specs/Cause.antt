@@ -9,7 +9,7 @@ use native.Mathlib.Decide.{decLt}
 use native.Mathlib.Omega.{arith}
 use borrow.Author.Tests.{eq-eqb, ne-eqb}
 use lib.ListN.{length}
-use Rattle.definitions.specs.declared.Mode.the-variants.{Independent}
+use Rattle.definitions.specs.declared.Mode.{Mode}
 use Rattle.definitions.specs.declared.Action.the-variants.{Select, Emit, Idle}
 use Rattle.definitions.specs.declared.Drawn.{Drawn}
 use Rattle.definitions.specs.declared.Drawn.the-variants.{Winner, Nothing}
@@ -25,7 +25,7 @@ use Rattle.definitions.specs.Select.{Place, placeUnder}
 use Rattle.definitions.specs.Edit.{put, sameDrawn, sameVerdict, endsOf, orElse, parting, isHeld, causeOf}
 use Rattle.definitions.specs.Calls.{independent, fits}
 use Rattle.laws.specs.Loadable.{Loadable}
-use Rattle.tracing.specs.Runs.{stepAt, workingAt, placeAt, working-stays, step-place, step-above, place-stays, place-past}
+use Rattle.tracing.specs.Runs.{leaves, stepAt, workingAt, placeAt, working-stays, step-place, step-above, place-stays, place-past}
 use Rattle.tracing.specs.Parting.{At, at-after, at-before, at-no-prefix}
 use Rattle.tracing.specs.Edited.{put-step, put-stays, put-count}
 use Rattle.tracing.specs.Traced.{Here, Traced, above, stays, accept, drawn, held-old, held-new, traced}
@@ -143,10 +143,10 @@ caused-before : {es fs : List Event} {cause : ℕ} (y z : List Event) → Caused
 caused-before y z k = record { e = k .e; f = k .f; kind = k .kind; at = at-before y z (k .at); parts = k .parts; is = k .is }
 
 -- the walk of a place begins with that of the place above
-begins-above : (m : Map) (x k n t p : ℕ) → stepAt m k ≡ Select Independent n t → p < length (workingAt m x (suc k))
+begins-above : (m : Map) (x k : ℕ) (mode : Mode) (n t p : ℕ) → stepAt m k ≡ Select mode n t → leaves mode ≡ true → p < length (workingAt m x (suc k))
     → (es : List Event) × (placeAt m x (suc k) p .walk ≡ placeAt m x k (p / n) .walk ++ es)
 unfolding placeUnder
-begins-above m x k n t p e l = (_, ap (λ (a : Place). a .walk) (step-place m x k n t e p l))
+begins-above m x k mode n t p e lv l = (_, ap (λ (a : Place). a .walk) (step-place m x k mode n t e lv p l))
 
 module _ (m : Map) (c : Change) (x : ℕ) where
   -- where the walks part in a place's own select, they part
@@ -157,11 +157,11 @@ module _ (m : Map) (c : Change) (x : ℕ) where
   abbrev At-place : ℕ → ℕ → ℕ → Type 0
   At-place k p cause = Caused (placeAt m x k p .walk) (placeAt (put m c) x k p .walk) cause
 
-  cause-above : independent m ≡ true → (k p n t cause : ℕ) → stepAt m k ≡ Select Independent n t → p < length (workingAt m x (suc k))
+  cause-above : independent m ≡ true → (k p n t cause : ℕ) (mode : Mode) → stepAt m k ≡ Select mode n t → leaves mode ≡ true → p < length (workingAt m x (suc k))
       → At-place k (p / n) cause → At-place (suc k) p cause
-  cause-above ind k p n t cause e l q =
-      let y = begins-above m x k n t p e l in
-      let z = begins-above (put m c) x k n t p (put-step m c k (Select Independent n t) e) (omega (arith, put-count m c ind x (suc k))) in
+  cause-above ind k p n t cause mode e lv l q =
+      let y = begins-above m x k mode n t p e lv l in
+      let z = begins-above (put m c) x k mode n t p (put-step m c k (Select mode n t) e) lv (omega (arith, put-count m c ind x (suc k))) in
       rw (y .1, z .1) (caused-before (y .0) (z .0) q)
 
   cause-stays : (k p cause : ℕ) → (stepAt m k ≡ Emit) ⊎ (stepAt m k ≡ Idle) → At-place k p cause → At-place (suc k) p cause
@@ -173,7 +173,7 @@ module _ (m : Map) (c : Change) (x : ℕ) where
   -- the walks of a place whose cause is traced part, with that cause
   pub cause-is : independent m ≡ true → {k p cause : ℕ} → Traced m c x k p cause → p < length (workingAt m x k)
       → Caused (placeAt m x k p .walk) (placeAt (put m c) x k p .walk) cause
-  cause-is ind (above {k} {p} {n} {t} {cause} e q) l = cause-above ind k p n t cause e l (cause-is ind q (step-above m x k n t e p l))
+  cause-is ind (above {k} {p} {n} {t} {cause} {mode} e lv q) l = cause-above ind k p n t cause mode e lv l (cause-is ind q (step-above m x k mode n t e lv p l))
   cause-is ind (stays {k} {p} {cause} e q) l = cause-stays k p cause e (cause-is ind q (count-stays k p e l))
   cause-is ind (accept e h w) l = accept-cause w (here-at h)
   cause-is ind (drawn h f w) l = draw-cause (here-at h) f

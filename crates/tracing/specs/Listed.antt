@@ -1,4 +1,4 @@
--- Document 01, "Walk, select and rule" and "Table, edits, moves": in a loadable map of independent selects a group's list is exactly W
+-- Document 01, "Walk, select and rule" and "Table, edits, moves": in a loadable map without first-n selects a group's list is exactly W
 -- long, each of its places is one of a working list that an emit appends, and so is each entry of the table. Assumes nothing.
 use mathlib.Core.Path.{_≡_, refl, sym, ap, ap₂, _∙_, subst}
 use mathlib.Core.Bool.{true, false≢true}
@@ -10,7 +10,7 @@ use native.Mathlib.Decide.{decLt}
 use native.Mathlib.Omega.{arith}
 use lib.ListN.{length, getD, take, drop, length-append, length-drop, length-map, List·getD-append}
 use lib.Seq.{drop-cons, drop-length, getD-append-add, drop-at, take-all, drop-append-le, take-append-le}
-use Rattle.definitions.specs.declared.Mode.the-variants.{FirstN, Independent}
+use Rattle.definitions.specs.declared.Mode.the-variants.{FirstN, Independent, Through}
 use Rattle.definitions.specs.declared.Action.{Action}
 use Rattle.definitions.specs.declared.Action.the-variants.{Take, Select, Emit, Idle}
 use Rattle.definitions.specs.declared.Standing.{Standing}
@@ -25,7 +25,7 @@ use Rattle.definitions.specs.Calls.{notFirstN, independent}
 use Rattle.laws.specs.Lists.{getD-mapped}
 use Rattle.laws.specs.Loadable.{Loadable, in-blocks}
 use Rattle.laws.specs.Blocks.{InOrder, takes, selects, emits, length-actions, step-inside, step-in-order}
-use Rattle.tracing.specs.Runs.{stepAt, runAt, workingAt, placeAt, run-step, working-take, working-stays, step-count, independent-at, steps-same, count-same}
+use Rattle.tracing.specs.Runs.{leaves, stepAt, runAt, workingAt, placeAt, run-step, working-take, working-stays, step-count, independent-at, steps-same, count-same}
 
 -- ---- the list so far
 
@@ -140,7 +140,7 @@ module _ (m : Map) (x : ℕ) (L : Loadable m) (ind : independent m ≡ true) whe
 
   -- a step moves places from what is left to the list
   left-step : (k : ℕ) → k < length (actionsOf m) → length (listAt m x k) + left k ≡ length (listAt m x (suc k)) + left (suc k)
-  unfolding widthsFrom sum taken notFirstN
+  unfolding widthsFrom sum taken notFirstN leaves
   left-step k h = rw (drop-cons (actionsOf m) k Idle h) (go (stepAt m k) refl (independent-at m ind k))
     where
       rest : List Action
@@ -149,9 +149,11 @@ module _ (m : Map) (x : ℕ) (L : Loadable m) (ind : independent m ≡ true) whe
       go : (a : Action) → stepAt m k ≡ a → notFirstN a ≡ true
           → length (listAt m x k) + sum (widthsFrom (length (workingAt m x k)) (stepAt m k ∷ rest)) ≡ length (listAt m x (suc k)) + sum (widthsFrom (length (workingAt m x (suc k))) rest)
       go (Take b) e i = rw (list-stays m x k (Take b) e (λ q. let z : _≡_ {A = ℕ} 0 1 = cc in omega arith), working-take m x k b e, e)
-      go (Select Independent n t) e i =
-          rw (list-stays m x k (Select Independent n t) e (λ q. let z : _≡_ {A = ℕ} 0 1 = cc in omega arith), step-count m x k n t e, e)
       go (Select FirstN n t) e i = absurd (false≢true i)
+      go (Select Independent n t) e i =
+          rw (list-stays m x k (Select Independent n t) e (λ q. let z : _≡_ {A = ℕ} 0 1 = cc in omega arith), step-count m x k Independent n t e refl, e)
+      go (Select Through n t) e i =
+          rw (list-stays m x k (Select Through n t) e (λ q. let z : _≡_ {A = ℕ} 0 1 = cc in omega arith), step-count m x k Through n t e refl, e)
       go Emit e i = rw (list-emit m x k e, working-stays m x k (inl e), length-append (listAt m x k) (workingAt m x k), e) (omega arith)
       go Idle e i = rw (list-stays m x k Idle e (λ q. let z : _≡_ {A = ℕ} 0 1 = cc in omega arith), working-stays m x k (inr e), e)
 

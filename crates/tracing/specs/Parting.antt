@@ -1,7 +1,7 @@
 -- Document 01, "Table, edits, moves": two walks of one rank, in two runs on views of the same types, are equal or part at one event.
 -- Assumes nothing.
 use mathlib.Core.Path.{_≡_, refl, sym, ap, _∙_, subst}
-use mathlib.Core.Bool.{Bool, true, false}
+use mathlib.Core.Bool.{Bool, true, false, cond}
 use mathlib.Core.List.{List, [], _∷_, _++_, append-assoc, append-nil, append-cancel-left, head-eq-of-cons-eq}
 use mathlib.Core.Logic.{_⊎_, inl, inr, ⊎-elim}
 use Prim.Native.Nat.{ℕ, zero, suc}
@@ -9,6 +9,7 @@ use native.Mathlib.Decide.{ℕ-discrete}
 use native.Mathlib.Omega.{arith}
 use lib.Dec.{ltb, eqb}
 use Rattle.definitions.specs.declared.Mode.{Mode}
+use Rattle.definitions.specs.declared.Mode.the-variants.{FirstN, Independent, Through}
 use Rattle.definitions.specs.declared.Drawn.{Drawn}
 use Rattle.definitions.specs.declared.Drawn.the-variants.{Winner, Nothing}
 use Rattle.definitions.specs.declared.Verdict.{Verdict}
@@ -20,7 +21,8 @@ use Rattle.definitions.specs.declared.Turn.{Turn}
 use Rattle.definitions.specs.declared.Turn.the-variants.{Fill, Fail}
 use Rattle.definitions.specs.Map.{bucketItem, bucketNumber}
 use Rattle.definitions.specs.View.{View}
-use Rattle.definitions.specs.Walk.{Descent, drawAt, landing, deeper, onWinner, onDrawn, descendIn, descend, verdictOf, TurnEvents, RankEvents, tryNumber, rankStart, tested, untested, onward, afterTurn, onTurn, onType, onLanded, onDescent, turnOf, rankFrom, rankOf}
+use Rattle.definitions.specs.Lists.{has}
+use Rattle.definitions.specs.Walk.{Descent, drawAt, landing, deeper, onWinner, onDrawn, descendIn, descend, verdictOf, Trial, plain, plainTest, TurnEvents, RankEvents, tryNumber, rankStart, tested, untested, onward, afterTurn, onTurn, onType, onLanded, onDescent, turnOf, rankFrom, rankBy, innerWalk, sought, throughBy, throughTest, testOf, rankOf}
 
 -- two draws end alike or not
 pub drawn-same : (y z : Drawn) → (y ≡ z) ⊎ (y ≡ z → ⊥)
@@ -84,12 +86,15 @@ at-no-prefix a d y = (
   λ q. d (head-eq-of-cons-eq (append-cancel-left (a .before) _ _ (sym (a .old-is) ∙ q ∙ ap (λ z. z ++ y) (a .new-is) ∙ append-assoc (a .before) _ y))),
 )
 
--- two views, the group x, and the entries that a select has put out so far in each run
+-- two views, the group x, and the items that a select holds so far in each run
 module _ (v₁ v₂ : View) (x : ℕ) (h₁ h₂ : List ℕ) where
   -- two events of one kind, at the same bucket and r' or of the same item, with different ends
   pub data Apart : Event → Event → Type 0 where
     draws : {b r : ℕ} {y z : Drawn} → y ≡ drawAt v₁ x r b → z ≡ drawAt v₂ x r b → (y ≡ z → ⊥) → Apart (Drew b r y) (Drew b r z)
     tests : {i : ℕ} {u w : Verdict} → u ≡ verdictOf v₁ x h₁ i → w ≡ verdictOf v₂ x h₂ i → (u ≡ w → ⊥) → Apart (Tested i u) (Tested i w)
+    -- the held test of a select through: the item is held in one run only
+    held : {i : ℕ} {u w : Verdict} → ((has i h₁ ≡ true) × (has i h₂ ≡ false)) ⊎ ((has i h₁ ≡ false) × (has i h₂ ≡ true))
+        → u ≡ cond (has i h₁) Held Passed → w ≡ cond (has i h₂) Held Passed → (u ≡ w → ⊥) → Apart (Tested i u) (Tested i w)
 
   -- two walks that part, and where
   pub record Parts (es fs : List Event) : Type 0 where
@@ -110,6 +115,7 @@ module _ (v₁ v₂ : View) (x : ℕ) (h₁ h₂ : List ℕ) where
   parts-differ : {e f : Event} → Apart e f → e ≡ f → ⊥
   parts-differ (draws p q d) e = d (cc)
   parts-differ (tests p q d) e = d (cc)
+  parts-differ (held f p q d) e = d (cc)
 
   -- neither walk is a beginning of the other
   pub no-prefix : {es fs : List Event} → Parts es fs → (y : List Event) → (fs ≡ es ++ y → ⊥) × (es ≡ fs ++ y → ⊥)
@@ -167,32 +173,36 @@ module _ (v₁ v₂ : View) (x : ℕ) (h₁ h₂ : List ℕ) where
 
     -- ---- turns and ranks
 
-    module _ (mode : Mode) (n t start r : ℕ) where
+    -- what the test of an item comes to in the two runs: the same, or its events part
+    abbrev Tests : (ℕ → ℕ → Trial) → (ℕ → ℕ → Trial) → Type 0
+    Tests f g = (q i : ℕ) → (f q i ≡ g q i) ⊎ Parts (f q i .events) (g q i .events)
+
+    module _ (mode : Mode) (n t : ℕ) (f g : ℕ → ℕ → Trial) (start r : ℕ) (tests-part : Tests f g) where
       abbrev T₁ : State → TurnEvents
-      T₁ = turnOf v₁ x mode n t h₁ start r
+      T₁ = turnOf v₁ x mode n t f start r
 
       abbrev T₂ : State → TurnEvents
-      T₂ = turnOf v₂ x mode n t h₂ start r
+      T₂ = turnOf v₂ x mode n t g start r
 
       -- a turn's events begin with its descent's
-      turn-begins : (v : View) (h : List ℕ) (s : State) (d : Descent) → (es : List Event) × (onDescent v x mode n t h start r s d .events ≡ d .events ++ es)
+      turn-begins : (v : View) (h : ℕ → ℕ → Trial) (s : State) (q : ℕ) (d : Descent) → (es : List Event) × (onDescent v x mode n t h start r s q d .events ≡ d .events ++ es)
       unfolding onDescent onLanded onType tested untested
-      turn-begins v h s d = by-drawn (d .landed .drawn)
+      turn-begins v h s q d = by-drawn (d .landed .drawn)
         where
-          by-type : (i : ℕ) (u : Bool) → (es : List Event) × (onType v x mode n t h start r s (d .landed .bucket) (d .events) i u .events ≡ d .events ++ es)
-          by-type i true = (Tested i (verdictOf v x h i) ∷ [], refl)
+          by-type : (i : ℕ) (u : Bool) → (es : List Event) × (onType v x mode n t h start r s q (d .landed .bucket) (d .events) i u .events ≡ d .events ++ es)
+          by-type i true = (h q i .events, refl)
           by-type i false = ([], sym (append-nil (d .events)))
 
-          by-drawn : (y : Drawn) → (es : List Event) × (onLanded v x mode n t h start r s (d .landed .bucket) (d .events) y .events ≡ d .events ++ es)
+          by-drawn : (y : Drawn) → (es : List Event) × (onLanded v x mode n t h start r s q (d .landed .bucket) (d .events) y .events ≡ d .events ++ es)
           by-drawn Nothing = ([], sym (append-nil (d .events)))
           by-drawn (Winner i) = by-type i (eqb (v .type i) t)
 
       -- equal descents lead to turns that agree
-      same-descent : (s : State) (d : Descent)
-          → (onDescent v₁ x mode n t h₁ start r s d ≡ onDescent v₂ x mode n t h₂ start r s d)
-          ⊎ Parts (onDescent v₁ x mode n t h₁ start r s d .events) (onDescent v₂ x mode n t h₂ start r s d .events)
+      same-descent : (s : State) (q : ℕ) (d : Descent)
+          → (onDescent v₁ x mode n t f start r s q d ≡ onDescent v₂ x mode n t g start r s q d)
+          ⊎ Parts (onDescent v₁ x mode n t f start r s q d .events) (onDescent v₂ x mode n t g start r s q d .events)
       unfolding onDescent onLanded onType tested
-      same-descent s d = by-drawn (d .landed .drawn)
+      same-descent s q d = by-drawn (d .landed .drawn)
         where
           b : ℕ
           b = d .landed .bucket
@@ -201,16 +211,14 @@ module _ (v₁ v₂ : View) (x : ℕ) (h₁ h₂ : List ℕ) where
           es = d .events
 
           by-type : (i : ℕ) (u : Bool)
-              → (onType v₁ x mode n t h₁ start r s b es i u ≡ onType v₂ x mode n t h₂ start r s b es i u)
-              ⊎ Parts (onType v₁ x mode n t h₁ start r s b es i u .events) (onType v₂ x mode n t h₂ start r s b es i u .events)
-          by-type i true =
-              ⊎-elim (λ q. inl (ap (tested start s b es i) q))
-              (λ q. inr (parts-after es (parts-now (tests refl refl q)))) (verdict-same (verdictOf v₁ x h₁ i) (verdictOf v₂ x h₂ i))
+              → (onType v₁ x mode n t f start r s q b es i u ≡ onType v₂ x mode n t g start r s q b es i u)
+              ⊎ Parts (onType v₁ x mode n t f start r s q b es i u .events) (onType v₂ x mode n t g start r s q b es i u .events)
+          by-type i true = ⊎-elim (λ p. inl (ap (tested start s b es i) p)) (λ p. inr (parts-after es p)) (tests-part q i)
           by-type i false = inl refl
 
           by-drawn : (y : Drawn)
-              → (onLanded v₁ x mode n t h₁ start r s b es y ≡ onLanded v₂ x mode n t h₂ start r s b es y)
-              ⊎ Parts (onLanded v₁ x mode n t h₁ start r s b es y .events) (onLanded v₂ x mode n t h₂ start r s b es y .events)
+              → (onLanded v₁ x mode n t f start r s q b es y ≡ onLanded v₂ x mode n t g start r s q b es y)
+              ⊎ Parts (onLanded v₁ x mode n t f start r s q b es y .events) (onLanded v₂ x mode n t g start r s q b es y .events)
           by-drawn Nothing = inl refl
           by-drawn (Winner i) = rw (← types i) (by-type i (eqb (v₁ .type i) t))
 
@@ -219,16 +227,16 @@ module _ (v₁ v₂ : View) (x : ℕ) (h₁ h₂ : List ℕ) where
       turns s = go (descend v₁ x t (tryNumber mode n r s) (s .at)) (descend v₂ x t (tryNumber mode n r s) (s .at)) (descents t (tryNumber mode n r s) (s .at))
         where
           D₁ : Descent → TurnEvents
-          D₁ = onDescent v₁ x mode n t h₁ start r s
+          D₁ = onDescent v₁ x mode n t f start r s (tryNumber mode n r s)
 
           D₂ : Descent → TurnEvents
-          D₂ = onDescent v₂ x mode n t h₂ start r s
+          D₂ = onDescent v₂ x mode n t g start r s (tryNumber mode n r s)
 
           go : (c d : Descent) → Agree c d → (D₁ c ≡ D₂ d) ⊎ Parts (D₁ c .events) (D₂ d .events)
-          go c d (inl q) = subst (λ e. (D₁ c ≡ D₂ e) ⊎ Parts (D₁ c .events) (D₂ e .events)) q (same-descent s c)
+          go c d (inl q) = subst (λ e. (D₁ c ≡ D₂ e) ⊎ Parts (D₁ c .events) (D₂ e .events)) q (same-descent s (tryNumber mode n r s) c)
           go c d (inr p) =
-              let y = turn-begins v₁ h₁ s c in
-              let z = turn-begins v₂ h₂ s d in
+              let y = turn-begins v₁ f s (tryNumber mode n r s) c in
+              let z = turn-begins v₂ g s (tryNumber mode n r s) d in
               inr (rw (y .1, z .1) (parts-before (y .0) (z .0) p))
 
       abbrev Agreed : RankEvents → RankEvents → Type 0
@@ -237,27 +245,27 @@ module _ (v₁ v₂ : View) (x : ℕ) (h₁ h₂ : List ℕ) where
       -- a rank's events begin with its first turn's
       rank-begins : (go : State → RankEvents) (s : State) (es : List Event) (u : Turn) → (fs : List Event) × (afterTurn go s es u .events ≡ es ++ fs)
       unfolding afterTurn onward
-      rank-begins go s es (Fill i) = ([], sym (append-nil es))
+      rank-begins go s es (Fill i e k) = ([], sym (append-nil es))
       rank-begins go s es (Fail z) = (go z .events, refl)
 
       -- equal turns lead to ranks that agree
-      same-turn : (f g : State → RankEvents) → ((s : State) → Agreed (f s) (g s)) → (s : State) (es : List Event) (u : Turn)
-          → Agreed (afterTurn f s es u) (afterTurn g s es u)
+      same-turn : (o p : State → RankEvents) → ((s : State) → Agreed (o s) (p s)) → (s : State) (es : List Event) (u : Turn)
+          → Agreed (afterTurn o s es u) (afterTurn p s es u)
       unfolding afterTurn onward
-      same-turn f g h s es (Fill i) = inl refl
-      same-turn f g h s es (Fail z) = ⊎-elim (λ q. inl (ap (onward es) q)) (λ p. inr (parts-after es p)) (h z)
+      same-turn o p h s es (Fill i e k) = inl refl
+      same-turn o p h s es (Fail z) = ⊎-elim (λ q. inl (ap (onward es) q)) (λ q. inr (parts-after es q)) (h z)
 
       -- two ranks from one state
-      pub ranks-part : (k : ℕ) (s : State) → Agreed (rankFrom v₁ x mode n t h₁ start r k s) (rankFrom v₂ x mode n t h₂ start r k s)
+      pub ranks-part : (k : ℕ) (s : State) → Agreed (rankFrom v₁ x mode n t f start r k s) (rankFrom v₂ x mode n t g start r k s)
       unfolding rankFrom onTurn
       ranks-part zero s = inl refl
       ranks-part (suc k) s = go (T₁ s) (T₂ s) (turns s) (ranks-part k)
         where
           R₁ : State → RankEvents
-          R₁ = rankFrom v₁ x mode n t h₁ start r k
+          R₁ = rankFrom v₁ x mode n t f start r k
 
           R₂ : State → RankEvents
-          R₂ = rankFrom v₂ x mode n t h₂ start r k
+          R₂ = rankFrom v₂ x mode n t g start r k
 
           go : (a b : TurnEvents) → (a ≡ b) ⊎ Parts (a .events) (b .events) → ((z : State) → Agreed (R₁ z) (R₂ z)) → Agreed (onTurn R₁ s a) (onTurn R₂ s b)
           go a b (inl q) rest = subst (λ c. Agreed (onTurn R₁ s a) (onTurn R₂ s c)) q (same-turn R₁ R₂ rest s (a .events) (a .turn))
@@ -267,8 +275,44 @@ module _ (v₁ v₂ : View) (x : ℕ) (h₁ h₂ : List ℕ) where
               inr (rw (y .1, z .1) (parts-before (y .0) (z .0) p))
 
       -- two walks of one rank are equal, entry, f_r and f too, or part
-      pub rank-parts : (f : ℕ)
-          → (rankOf v₁ x mode n t h₁ start r f ≡ rankOf v₂ x mode n t h₂ start r f)
-          ⊎ Parts (rankOf v₁ x mode n t h₁ start r f .events) (rankOf v₂ x mode n t h₂ start r f .events)
+      pub rank-by : (k : ℕ)
+          → (rankBy v₁ x mode n t f start r k ≡ rankBy v₂ x mode n t g start r k)
+          ⊎ Parts (rankBy v₁ x mode n t f start r k .events) (rankBy v₂ x mode n t g start r k .events)
+      unfolding rankBy
+      rank-by k = ranks-part 50 (rankStart start k)
+
+    -- ---- the tests of each mode
+
+    plain-tests : Tests (plainTest v₁ x h₁) (plainTest v₂ x h₂)
+    unfolding plainTest plain
+    plain-tests q i =
+        ⊎-elim (λ p. inl (ap (plain i) p)) (λ p. inr (parts-now (tests refl refl p))) (verdict-same (verdictOf v₁ x h₁ i) (verdictOf v₂ x h₂ i))
+
+    module _ (n : ℕ) where
+      through-tests : Tests (throughTest v₁ x n h₁) (throughTest v₂ x n h₂)
+      unfolding throughTest throughBy innerWalk sought plain
+      through-tests q i = go (has i h₁) (has i h₂) refl refl
+        where
+          inner : (rankBy v₁ x Independent n 0 (plainTest v₁ x h₁) (bucketNumber i) q 0 ≡ rankBy v₂ x Independent n 0 (plainTest v₂ x h₂) (bucketNumber i) q 0)
+              ⊎ Parts (rankBy v₁ x Independent n 0 (plainTest v₁ x h₁) (bucketNumber i) q 0 .events) (rankBy v₂ x Independent n 0 (plainTest v₂ x h₂) (bucketNumber i) q 0 .events)
+          inner = rank-by Independent n 0 (plainTest v₁ x h₁) (plainTest v₂ x h₂) (bucketNumber i) q plain-tests 0
+
+          go : (a b : Bool) → has i h₁ ≡ a → has i h₂ ≡ b
+              → (throughBy v₁ x n h₁ q i a ≡ throughBy v₂ x n h₂ q i b) ⊎ Parts (throughBy v₁ x n h₁ q i a .events) (throughBy v₂ x n h₂ q i b .events)
+          go true true e₁ e₂ = inl refl
+          go true false e₁ e₂ = inr (parts-now (held (inl (e₁, e₂)) (rw e₁) (rw e₂) (λ q. let z : _≡_ {A = ℕ} 0 1 = cc in omega arith)))
+          go false true e₁ e₂ = inr (parts-now (held (inr (e₁, e₂)) (rw e₁) (rw e₂) (λ q. let z : _≡_ {A = ℕ} 0 1 = cc in omega arith)))
+          go false false e₁ e₂ = ⊎-elim (λ p. inl (ap (sought i) p)) (λ p. inr (parts-after (Tested i Passed ∷ []) p)) inner
+
+      mode-tests : (mode : Mode) → Tests (testOf mode v₁ x n h₁) (testOf mode v₂ x n h₂)
+      unfolding testOf
+      mode-tests FirstN = plain-tests
+      mode-tests Independent = plain-tests
+      mode-tests Through = through-tests
+
+      -- two walks of one rank, inner walks included, are equal, item, entry and counts too, or part
+      pub rank-parts : (mode : Mode) (t start r k : ℕ)
+          → (rankOf v₁ x mode n t h₁ start r k ≡ rankOf v₂ x mode n t h₂ start r k)
+          ⊎ Parts (rankOf v₁ x mode n t h₁ start r k .events) (rankOf v₂ x mode n t h₂ start r k .events)
       unfolding rankOf
-      rank-parts f = ranks-part 50 (rankStart start f)
+      rank-parts mode t start r k = rank-by mode n t (testOf mode v₁ x n h₁) (testOf mode v₂ x n h₂) start r (mode-tests mode) k

@@ -9,7 +9,8 @@ use native.Mathlib.Decide.{decLt}
 use native.Mathlib.Omega.{arith}
 use lib.Dec.{eqb}
 use lib.ListN.{length, getD, take}
-use Rattle.definitions.specs.declared.Mode.the-variants.{FirstN, Independent}
+use Rattle.definitions.specs.declared.Mode.{Mode}
+use Rattle.definitions.specs.declared.Mode.the-variants.{FirstN, Independent, Through}
 use Rattle.definitions.specs.declared.Action.{Action}
 use Rattle.definitions.specs.declared.Action.the-variants.{Take, Select, Emit, Idle}
 use Rattle.definitions.specs.declared.Drawn.{Drawn}
@@ -23,13 +24,13 @@ use Rattle.definitions.specs.Lists.{has}
 use Rattle.definitions.specs.Map.{Map, bucketNumber}
 use Rattle.definitions.specs.View.{View, viewOf}
 use Rattle.definitions.specs.Walk.{hole, RankEvents, accepted, verdictOf, rankOf}
-use Rattle.definitions.specs.Select.{Place, entriesOf, placeUnder, nowhere}
+use Rattle.definitions.specs.Select.{Place, itemsOf, placeUnder, nowhere}
 use Rattle.definitions.specs.Rule.{runTo}
 use Rattle.definitions.specs.Edit.{put}
 use Rattle.definitions.specs.Calls.{notFirstN, independent, fits}
 use Rattle.laws.specs.Loadable.{Loadable}
-use Rattle.tracing.specs.Runs.{noRank, rankUnder, stepAt, workingAt, placeAt, working-take, step-place, place-stays, place-past, held-at, not-held, independent-at}
-use Rattle.tracing.specs.Parting.{At, Apart, draws, tests, Parts, rank-parts}
+use Rattle.tracing.specs.Runs.{leaves, noRank, rankUnder, stepAt, workingAt, placeAt, working-take, step-place, place-stays, place-past, held-at, not-held, independent-at}
+use Rattle.tracing.specs.Parting.{At, Apart, draws, tests, held, Parts, rank-parts}
 use Rattle.tracing.specs.Edited.{Won, Edited, edited, put-types, put-step, put-stays, put-count}
 
 -- an edit c of map m, and the group x
@@ -42,11 +43,13 @@ module _ (m : Map) (c : Change) (x : ℕ) where
   abbrev pub new : ℕ → ℕ → Place
   new k p = placeAt (put m c) x k p
 
-  -- step k is an independent select of count n; the place above place p is the same in both runs; and the walks of place p part in its
+  -- step k is a select of count n that leaves holes; the place above place p is the same in both runs; and the walks of place p part in its
   -- own select, at e in the old run and at f in the new
   pub record Here (k p n : ℕ) (e f : Event) : Type 0 where
+    pub mode : Mode
     pub wanted : ℕ
-    pub step : stepAt m k ≡ Select Independent n wanted
+    pub step : stepAt m k ≡ Select mode n wanted
+    pub leaves-holes : leaves mode ≡ true
     pub above : old k (p / n) ≡ new k (p / n)
     pub olds : List Event
     pub news : List Event
@@ -57,7 +60,7 @@ module _ (m : Map) (c : Change) (x : ℕ) where
   -- the cause of place p of the working list after k steps is traced to the edited device
   pub data Traced : ℕ → ℕ → ℕ → Type 0 where
     -- its walks part in a select above: those of the place p / n, under which it stands, do
-    above : {k p n t cause : ℕ} → stepAt m k ≡ Select Independent n t → Traced k (p / n) cause → Traced (suc k) p cause
+    above : {k p n t cause : ℕ} {mode : Mode} → stepAt m k ≡ Select mode n t → leaves mode ≡ true → Traced k (p / n) cause → Traced (suc k) p cause
     -- an emit, or no step at all, leaves the working list as it is
     stays : {k p cause : ℕ} → (stepAt m k ≡ Emit) ⊎ (stepAt m k ≡ Idle) → Traced k p cause → Traced (suc k) p cause
     -- 01: after an edit of its acceptance, device d passed acceptance in one run only
@@ -68,27 +71,27 @@ module _ (m : Map) (c : Change) (x : ℕ) where
     -- 03: the item was held in the old run only: an earlier place q of this select holds it there, none holds it in the new run, and the
     -- cause of q is traced
     held-old : {k p n q i cause : ℕ} {w : Verdict} → Here k p n (Tested i Held) (Tested i w) → (w ≡ Held → ⊥)
-        → q < p → old (suc k) q .entry ≡ i → ((l : ℕ) → l < p → new (suc k) l .entry ≡ i → ⊥) → Traced (suc k) q cause → Traced (suc k) p 3
+        → q < p → old (suc k) q .item ≡ i → ((l : ℕ) → l < p → new (suc k) l .item ≡ i → ⊥) → Traced (suc k) q cause → Traced (suc k) p 3
     -- 03: the same with the runs exchanged
     held-new : {k p n q i cause : ℕ} {u : Verdict} → Here k p n (Tested i u) (Tested i Held) → (u ≡ Held → ⊥)
-        → q < p → new (suc k) q .entry ≡ i → ((l : ℕ) → l < p → old (suc k) l .entry ≡ i → ⊥) → Traced (suc k) q cause → Traced (suc k) p 3
+        → q < p → new (suc k) q .item ≡ i → ((l : ℕ) → l < p → old (suc k) l .item ≡ i → ⊥) → Traced (suc k) q cause → Traced (suc k) p 3
 
 -- two ranks under one place
-under-parts : (v₁ v₂ : View) (x : ℕ) (h₁ h₂ : List ℕ) → ((i : ℕ) → v₁ .type i ≡ v₂ .type i) → (n t : ℕ) (up : Place) (r : ℕ)
-    → (rankUnder v₁ x n t h₁ up r ≡ rankUnder v₂ x n t h₂ up r)
-    ⊎ Parts v₁ v₂ x h₁ h₂ (rankUnder v₁ x n t h₁ up r .events) (rankUnder v₂ x n t h₂ up r .events)
+under-parts : (v₁ v₂ : View) (x : ℕ) (h₁ h₂ : List ℕ) → ((i : ℕ) → v₁ .type i ≡ v₂ .type i) → (mode : Mode) (n t : ℕ) (up : Place) (r : ℕ)
+    → (rankUnder v₁ x mode n t h₁ up r ≡ rankUnder v₂ x mode n t h₂ up r)
+    ⊎ Parts v₁ v₂ x h₁ h₂ (rankUnder v₁ x mode n t h₁ up r .events) (rankUnder v₂ x mode n t h₂ up r .events)
 unfolding rankUnder
-under-parts v₁ v₂ x h₁ h₂ types n t up r = go (eqb (up .entry) hole)
+under-parts v₁ v₂ x h₁ h₂ types mode n t up r = go (eqb (up .entry) hole)
   where
     A : RankEvents
-    A = rankOf v₁ x Independent n t h₁ (bucketNumber (up .entry)) r 0
+    A = rankOf v₁ x mode n t h₁ (bucketNumber (up .entry)) r 0
 
     B : RankEvents
-    B = rankOf v₂ x Independent n t h₂ (bucketNumber (up .entry)) r 0
+    B = rankOf v₂ x mode n t h₂ (bucketNumber (up .entry)) r 0
 
     go : (b : Bool) → (cond b noRank A ≡ cond b noRank B) ⊎ Parts v₁ v₂ x h₁ h₂ (cond b noRank A .events) (cond b noRank B .events)
     go true = inl refl
-    go false = rank-parts v₁ v₂ x h₁ h₂ types Independent n t (bucketNumber (up .entry)) r 0
+    go false = rank-parts v₁ v₂ x h₁ h₂ types n mode t (bucketNumber (up .entry)) r 0
 
 not-held-verdict : (b : Bool) → cond b Passed Rejected ≡ Held → ⊥
 not-held-verdict true e = let z : _≡_ {A = ℕ} 0 1 = cc in omega arith
@@ -111,12 +114,12 @@ module _ (m : Map) (c : Change) (x : ℕ) (X : Edited m c x) (ind : independent 
   count k = length (workingAt m x k)
 
   -- place p after the select that is step k, where the earlier places of the select are the same or traced
-  module _ (k n t p : ℕ) (e : stepAt m k ≡ Select Independent n t) (in-p : p < count (suc k)) (earlier : (q : ℕ) → q < p → Claim (suc k) q) where
+  module _ (k n t p : ℕ) (mode : Mode) (e : stepAt m k ≡ Select mode n t) (lv : leaves mode ≡ true) (in-p : p < count (suc k)) (earlier : (q : ℕ) → q < p → Claim (suc k) q) where
     abbrev h₁ : List ℕ
-    h₁ = entriesOf (take p (workingAt m x (suc k)))
+    h₁ = itemsOf (take p (workingAt m x (suc k)))
 
     abbrev h₂ : List ℕ
-    h₂ = entriesOf (take p (workingAt (put m c) x (suc k)))
+    h₂ = itemsOf (take p (workingAt (put m c) x (suc k)))
 
     abbrev H : Event → Event → Type 0
     H = Here m c x k p n
@@ -126,16 +129,16 @@ module _ (m : Map) (c : Change) (x : ℕ) (X : Edited m c x) (ind : independent 
     unfolding placeAt
     only-old {i} h nw e₁ e₂ =
         let (q, l, s, at₁) = held-at (workingAt m x (suc k)) p i e₁ in
-        let none : (o : ℕ) → o < p → N (suc k) o .entry ≡ i → ⊥ = λ o g. not-held (workingAt (put m c) x (suc k)) p i o e₂ g (omega (arith, put-count m c ind x (suc k))) in
-        ⊎-elim (λ y. absurd (none q l (sym (ap (λ (a : Place). a .entry) y) ∙ at₁))) (λ y. held-old h nw l at₁ none (y .1)) (earlier q l)
+        let none : (o : ℕ) → o < p → N (suc k) o .item ≡ i → ⊥ = λ o g. not-held (workingAt (put m c) x (suc k)) p i o e₂ g (omega (arith, put-count m c ind x (suc k))) in
+        ⊎-elim (λ y. absurd (none q l (sym (ap (λ (a : Place). a .item) y) ∙ at₁))) (λ y. held-old h nw l at₁ none (y .1)) (earlier q l)
 
     -- held in the new run only
     only-new : {i : ℕ} {u : Verdict} → H (Tested i u) (Tested i Held) → (u ≡ Held → ⊥) → has i h₁ ≡ false → has i h₂ ≡ true → Tr (suc k) p 3
     unfolding placeAt
     only-new {i} h nu e₁ e₂ =
         let (q, l, s, at₂) = held-at (workingAt (put m c) x (suc k)) p i e₂ in
-        let none : (o : ℕ) → o < p → O (suc k) o .entry ≡ i → ⊥ = λ o g. not-held (workingAt m x (suc k)) p i o e₁ g (omega arith) in
-        ⊎-elim (λ y. absurd (none q l (ap (λ (a : Place). a .entry) y ∙ at₂))) (λ y. held-new h nu l at₂ none (y .1)) (earlier q l)
+        let none : (o : ℕ) → o < p → O (suc k) o .item ≡ i → ⊥ = λ o g. not-held (workingAt m x (suc k)) p i o e₁ g (omega arith) in
+        ⊎-elim (λ y. absurd (none q l (ap (λ (a : Place). a .item) y ∙ at₂))) (λ y. held-new h nu l at₂ none (y .1)) (earlier q l)
 
     abbrev v₁ : View
     v₁ = viewOf m
@@ -163,36 +166,42 @@ module _ (m : Map) (c : Change) (x : ℕ) (X : Edited m c x) (ind : independent 
     parted (draws {b} {r} u w dif) h =
         ⊎-elim (λ q. absurd (dif (u ∙ q ∙ sym w))) (λ q. (2, drawn h dif (rw (u, w) q))) (X .draws r b)
     parted (tests {i} u w dif) h = tested h dif (has i h₁) (has i h₂) (accepted v₁ x i) (accepted v₂ x i) refl refl refl refl u w
+    parted (held {i} {w = g} (inl (a, b)) u w dif) h =
+        (3, only-old (subst (λ z. H (Tested i z) (Tested i g)) (u ∙ rw a) h) (λ z. not-held-verdict true (sym (w ∙ rw b) ∙ z)) a b)
+    parted (held {i} {u = g} (inr (a, b)) u w dif) h =
+        (3, only-new (subst (λ z. H (Tested i g) (Tested i z)) (w ∙ rw b) h) (λ z. not-held-verdict true (sym (u ∙ rw a) ∙ z)) a b)
 
     -- under equal places above
     under : O k (p / n) ≡ N k (p / n) → Claim (suc k) p
     unfolding placeUnder
-    under same = go (under-parts v₁ v₂ x h₁ h₂ (put-types m c) n t up (p % n + 1))
+    under same = go (under-parts v₁ v₂ x h₁ h₂ (put-types m c) mode n t up (p % n + 1))
       where
         up : Place
         up = O k (p / n)
 
         r₁ : RankEvents
-        r₁ = rankUnder v₁ x n t h₁ up (p % n + 1)
+        r₁ = rankUnder v₁ x mode n t h₁ up (p % n + 1)
 
         r₂ : RankEvents
-        r₂ = rankUnder v₂ x n t h₂ up (p % n + 1)
+        r₂ = rankUnder v₂ x mode n t h₂ up (p % n + 1)
 
         is₁ : O (suc k) p ≡ placeUnder up r₁
-        is₁ = step-place m x k n t e p in-p
+        is₁ = step-place m x k mode n t e lv p in-p
 
         is₂ : N (suc k) p ≡ placeUnder up r₂
         is₂ =
-            step-place (put m c) x k n t (put-step m c k (Select Independent n t) e) p (omega (arith, put-count m c ind x (suc k)))
-            ∙ ap (λ (a : Place). placeUnder a (rankUnder v₂ x n t h₂ a (p % n + 1))) (sym same)
+            step-place (put m c) x k mode n t (put-step m c k (Select mode n t) e) lv p (omega (arith, put-count m c ind x (suc k)))
+            ∙ ap (λ (a : Place). placeUnder a (rankUnder v₂ x mode n t h₂ a (p % n + 1))) (sym same)
 
         go : (r₁ ≡ r₂) ⊎ Parts v₁ v₂ x h₁ h₂ (r₁ .events) (r₂ .events) → Claim (suc k) p
         go (inl q) = inl (is₁ ∙ ap (placeUnder up) q ∙ sym is₂)
         go (inr P) =
             inr (parted (P .apart)
             (record {
+              mode = mode;
               wanted = t;
               step = e;
+              leaves-holes = lv;
               above = same;
               olds = r₁ .events;
               news = r₂ .events;
@@ -202,16 +211,16 @@ module _ (m : Map) (c : Change) (x : ℕ) (X : Edited m c x) (ind : independent 
             }))
 
   -- the places of a select, where those above are the same or traced
-  each : (k n t : ℕ) → stepAt m k ≡ Select Independent n t → ((q : ℕ) → Claim k q) → (l p : ℕ) → p < l → Claim (suc k) p
-  each k n t e ups zero p h = absurd (omega arith)
-  each k n t e ups (suc l) p h = go (λ q g. each k n t e ups l q (omega arith)) (decLt p (count (suc k)))
+  each : (k n t : ℕ) (mode : Mode) → stepAt m k ≡ Select mode n t → leaves mode ≡ true → ((q : ℕ) → Claim k q) → (l p : ℕ) → p < l → Claim (suc k) p
+  each k n t mode e lv ups zero p h = absurd (omega arith)
+  each k n t mode e lv ups (suc l) p h = go (λ q g. each k n t mode e lv ups l q (omega arith)) (decLt p (count (suc k)))
     where
       go : ((q : ℕ) → q < p → Claim (suc k) q) → Dec (p < count (suc k)) → Claim (suc k) p
-      go earlier (yes g) = ⊎-elim (λ q. under k n t p e g earlier q) (λ q. inr (q .0, above e (q .1))) (ups (p / n))
+      go earlier (yes g) = ⊎-elim (λ q. under k n t p mode e lv g earlier q) (λ q. inr (q .0, above e lv (q .1))) (ups (p / n))
       go earlier (no f) = inl (place-past m x (suc k) p (omega arith) ∙ sym (place-past (put m c) x (suc k) p (omega (arith, put-count m c ind x (suc k)))))
 
   all-traced : (k p : ℕ) → Claim k p
-  unfolding placeAt workingAt runTo notFirstN
+  unfolding placeAt workingAt runTo notFirstN leaves
   all-traced zero p = inl refl
   all-traced (suc k) p = go (stepAt m k) refl (independent-at m ind k) (all-traced k)
     where
@@ -222,8 +231,9 @@ module _ (m : Map) (c : Change) (x : ℕ) (X : Edited m c x) (ind : independent 
       go : (a : Action) → stepAt m k ≡ a → notFirstN a ≡ true → ((q : ℕ) → Claim k q) → Claim (suc k) p
       go (Take b) e i ups =
           inl (ap (λ (ps : List Place). getD ps p nowhere) (working-take m x k b e ∙ sym (working-take (put m c) x k b (put-step m c k (Take b) e))))
-      go (Select Independent n t) e i ups = each k n t e ups (suc p) p (omega arith)
       go (Select FirstN n t) e i ups = absurd (false≢true i)
+      go (Select Independent n t) e i ups = each k n t Independent e refl ups (suc p) p (omega arith)
+      go (Select Through n t) e i ups = each k n t Through e refl ups (suc p) p (omega arith)
       go Emit e i ups = stay (inl e) (ups p)
       go Idle e i ups = stay (inr e) (ups p)
 
@@ -237,13 +247,13 @@ module _ (m : Map) (c : Change) (x : ℕ) where
   -- whose entries differ
   pub data Leads (l q : ℕ) : ℕ → ℕ → Type 0 where
     ends : Leads l q l q
-    to-above : {k p n t : ℕ} → stepAt m k ≡ Select Independent n t → Leads l q k (p / n) → Leads l q (suc k) p
+    to-above : {k p n t : ℕ} {mode : Mode} → stepAt m k ≡ Select mode n t → Leads l q k (p / n) → Leads l q (suc k) p
     to-same : {k p : ℕ} → (stepAt m k ≡ Emit) ⊎ (stepAt m k ≡ Idle) → Leads l q k p → Leads l q (suc k) p
-    to-earlier : {k p o : ℕ} → o < p → (old m c x (suc k) o .entry ≡ new m c x (suc k) o .entry → ⊥) → Leads l q (suc k) o → Leads l q (suc k) p
+    to-earlier : {k p o : ℕ} → o < p → (old m c x (suc k) o .item ≡ new m c x (suc k) o .item → ⊥) → Leads l q (suc k) o → Leads l q (suc k) p
 
   -- followed so from place to place, a cause ends at 01 or 02
   pub root : {k p cause : ℕ} → Traced m c x k p cause → (l : ℕ) × (q : ℕ) × Leads l q k p × (Traced m c x l q 1 ⊎ Traced m c x l q 2)
-  root (above e t) = let (l, q, g, r) = root t in (l, q, to-above e g, r)
+  root (above e lv t) = let (l, q, g, r) = root t in (l, q, to-above e g, r)
   root (stays e t) = let (l, q, g, r) = root t in (l, q, to-same e g, r)
   root (accept {k} {p} e h w) = (suc k, p, ends, inl (accept e h w))
   root (drawn {k} {p} h f w) = (suc k, p, ends, inr (drawn h f w))
@@ -252,7 +262,7 @@ module _ (m : Map) (c : Change) (x : ℕ) where
 
   -- each cause is 01, 02 or 03
   pub cause-range : {k p cause : ℕ} → Traced m c x k p cause → (1 ≤ cause) × (cause ≤ 3)
-  cause-range (above e t) = cause-range t
+  cause-range (above e lv t) = cause-range t
   cause-range (stays e t) = cause-range t
   cause-range (accept e h w) = (omega arith, omega arith)
   cause-range (drawn h f w) = (omega arith, omega arith)
@@ -261,7 +271,7 @@ module _ (m : Map) (c : Change) (x : ℕ) where
 
   -- 01 only after an edit of acceptance
   pub accept-only : {k p cause : ℕ} → Traced m c x k p cause → cause ≡ 1 → (d : ℕ) × (a : ℕ) × (c ≡ Acceptance d a)
-  accept-only (above e t) q = accept-only t q
+  accept-only (above e lv t) q = accept-only t q
   accept-only (stays e t) q = accept-only t q
   accept-only (accept {d} {a} e h w) q = (d, a, e)
   accept-only (drawn h f w) q = absurd (omega arith)
@@ -270,7 +280,7 @@ module _ (m : Map) (c : Change) (x : ℕ) where
 
   -- 02 only after an edit of weight
   pub drawn-only : {k p cause : ℕ} → Traced m c x k p cause → cause ≡ 2 → (d : ℕ) × (w : ℕ) × (c ≡ Weight d w)
-  drawn-only (above e t) q = drawn-only t q
+  drawn-only (above e lv t) q = drawn-only t q
   drawn-only (stays e t) q = drawn-only t q
   drawn-only (accept e h w) q = absurd (omega arith)
   drawn-only (drawn h f w) q = (w .device, w .weight, w .edit)

@@ -1,15 +1,17 @@
-// Document 01, "Walk, select and rule": the test of an item, a turn of a rank, and a rank.
+// Document 01, "Walk, select and rule": the test of an item, a turn of a rank, and a rank; and, by document 02, change 1, the inner walk of a
+// select through.
 ghost use mathlib.Core.Path.{_≡_};
 ghost use Prim.Native.Nat.{_<_, _≤_};
 ghost use Rattle.definitions.specs.Lists.{has};
-ghost use Rattle.definitions.specs.Walk.{accepted, verdictOf, failedTo, retryAt, onVerdict, rankEnd};
+ghost use Rattle.definitions.specs.Walk.{accepted, verdictOf, plain, triesIn, found, failedTo, retryAt, onTried, rankEnd};
 ghost use Rattle.hierarchy.specs.Arrays.{viewIn, ItemRange, Sound};
-ghost use Rattle.walk.specs.Searches.{SearchBounds, tryAt, turnAt, rankAt};
-ghost use Rattle.walk.specs.Bounds.{Going, TurnBounds, RankBounds};
+ghost use Rattle.walk.specs.Searches.{SearchBounds, innerSearch, reachedBy, tryAt, testAt, turnAt, rankAt};
+ghost use Rattle.walk.specs.Bounds.{Going, Testable, TriedBounds, TurnBounds, RankBounds};
 use definitions::Drawn;
 use definitions::Mode;
 use definitions::Ranked;
 use definitions::State;
+use definitions::Tried;
 use definitions::Turn;
 use definitions::Verdict;
 use hierarchy::Plan;
@@ -45,13 +47,13 @@ pub fn accepts<'a>(plan: &'a Plan, values: &'a Values, x: u32, i: u32) -> bool
     jenkins::hash2(plan[hierarchy::SEED], x, i) % 65536 < values[i as usize]
 }
 
-// Is item i among the entries?
-pub fn holds(entries: &[u32], i: u32) -> bool
-    ensures { λ h. ⌜ h ≡ has i (now (entries .entry)) ⌝ }
+// Is item i among those held?
+pub fn holds(held: &[u32], i: u32) -> bool
+    ensures { λ h. ⌜ h ≡ has i (now (held .entry)) ⌝ }
 {
     let mut j: usize = 0;
-    while j < entries.len() {
-        if entries[j] == i {
+    while j < held.len() {
+        if held[j] == i {
             return true;
         }
         j += 1;
@@ -64,19 +66,85 @@ pub fn verdict<'a, 'b>(
     plan: &'a Plan,
     values: &'a Values,
     x: u32,
-    entries: &'b [u32],
+    held: &'b [u32],
     i: u32,
 ) -> Verdict
     requires { ⌜ ItemRange i ⌝ }
-    ensures { λ w. ⌜ w ≡ verdictOf (viewIn (now (plan .entry)) (now (values .entry))) x (now (entries .entry)) i ⌝ }
+    ensures { λ w. ⌜ w ≡ verdictOf (viewIn (now (plan .entry)) (now (values .entry))) x (now (held .entry)) i ⌝ }
 {
-    if holds(entries, i) {
+    if holds(held, i) {
         return Verdict::Held;
     }
     if accepts(plan, values, x, i) {
         Verdict::Passed
     } else {
         Verdict::Rejected
+    }
+}
+
+// The test of an item that is itself the entry.
+pub fn plain(i: u32, w: Verdict) -> Tried
+    ensures { λ k. ⌜ k ≡ plain i w .tried ⌝ }
+{
+    Tried {
+        verdict: w,
+        entry: i,
+        inner: 0,
+    }
+}
+
+fn plain_test<'a, 'b>(plan: &'a Plan, values: &'a Values, x: u32, held: &'b [u32], i: u32) -> Tried
+    requires { ⌜ ItemRange i ⌝ }
+    ensures { λ k. ⌜ k ≡ plain i (verdictOf (viewIn (now (plan .entry)) (now (values .entry))) x (now (held .entry)) i) .tried ⌝ }
+{
+    let w = verdict(plan, values, x, held, i);
+    plain(i, w)
+}
+
+// "every rise of f_r, and every pass"; "Each inner failure and inner pass is a try too."
+pub fn tries_in(k: Ranked) -> u32
+    requires { ⌜ (k .fr ≤ 50) × (k .inner ≤ 2500) ⌝ }
+    ensures { λ r. ⌜ r ≡ triesIn k ⌝ }
+{
+    if k.entry == HOLE {
+        return k.fr + k.inner;
+    }
+    k.fr + 1 + k.inner
+}
+
+// "Finding none counts as a failed test of the item.": the inner walk ended in k.
+pub fn found(k: Ranked) -> Tried
+    requires { ⌜ (k .fr ≤ 50) × (k .inner ≤ 2500) ⌝ }
+    ensures { λ w. ⌜ w ≡ found k ⌝ }
+{
+    let tries = tries_in(k);
+    let mut verdict = Verdict::Passed;
+    if k.entry == HOLE {
+        verdict = Verdict::Rejected;
+    }
+    Tried {
+        verdict: verdict,
+        entry: k.entry,
+        inner: tries,
+    }
+}
+
+// The inner walk beneath item i, which r' = q drew: "It begins at the item with the r' that drew it, each inner failure adds n".
+pub fn inner(n: u32, q: u32, i: u32) -> Search
+    requires { ⌜ 65536 ≤ i ⌝ }
+    ensures { λ k. ⌜ k ≡ innerSearch n q i ⌝ }
+{
+    let bucket = Item::numbered(i);
+    let start = bucket.bucket_number();
+    let wanted = Wanted {
+        mode: Mode::Independent,
+        n: n,
+        t: 0,
+    };
+    Search {
+        wanted: wanted,
+        start: start,
+        r: q,
     }
 }
 
@@ -90,18 +158,20 @@ pub fn try_number(search: Search, s: State) -> u32
     match mode {
         Mode::FirstN => search.r + s.f,
         Mode::Independent => search.r + s.fr * wanted.n,
+        Mode::Through => search.r + s.fr * wanted.n,
     }
 }
 
-// One failure more, and the next draw at bucket b.
-pub fn failed_to(b: u32, s: State) -> State
-    requires { ⌜ Going s ⌝ }
-    ensures { λ k. ⌜ k ≡ failedTo b s ⌝ }
+// One failure more, with k tries made within the test, and the next draw at bucket b.
+pub fn failed_to(b: u32, k: u32, s: State) -> State
+    requires { ⌜ Going s × (k ≤ 50) ⌝ }
+    ensures { λ z. ⌜ z ≡ failedTo b k s ⌝ }
 {
     State {
         at: b,
         fr: s.fr + 1,
         f: s.f + 1,
+        inner: s.inner + k,
     }
 }
 
@@ -115,30 +185,62 @@ pub fn retry_at(start: u32, b: u32, s: State) -> u32
 }
 
 // What the test of item i, drawn from bucket b, makes of a turn.
-pub fn on_verdict(start: u32, s: State, b: u32, i: u32, w: Verdict) -> Turn
-    requires { ⌜ Going s ⌝ }
-    ensures { λ k. ⌜ k ≡ onVerdict start s b i w ⌝ }
+pub fn on_tried(start: u32, s: State, b: u32, i: u32, w: Tried) -> Turn
+    requires { ⌜ Going s × (w .inner ≤ 50) ⌝ }
+    ensures { λ k. ⌜ k ≡ onTried start s b i w ⌝ }
 {
-    match w {
-        Verdict::Held => Turn::Fail(failed_to(retry_at(start, b, s), s)),
-        Verdict::Rejected => Turn::Fail(failed_to(start, s)),
-        Verdict::Passed => Turn::Fill(i),
+    let verdict = w.verdict;
+    match verdict {
+        Verdict::Held => Turn::Fail(failed_to(retry_at(start, b, s), w.inner, s)),
+        Verdict::Rejected => Turn::Fail(failed_to(start, w.inner, s)),
+        Verdict::Passed => Turn::Fill(i, w.entry, w.inner),
     }
 }
 
-// One turn of a rank: a descent, and the test of what it comes to.
-pub fn turn<'a, 'b>(
+// The test of item i, drawn with r' = q. A select through looks beneath an item that it does not hold by an inner walk, which is a rank too.
+fn test<'a, 'b>(
     plan: &'a Plan,
     values: &'a Values,
     x: u32,
     search: Search,
-    entries: &'b [u32],
+    held: &'b [u32],
+    q: u32,
+    i: u32,
+) -> Tried
+    requires { ⌜ Sound (now plan) ⌝ }
+    requires { ⌜ Testable (now plan) search q i ⌝ }
+    ensures { λ w. ⌜ w ≡ testAt (viewIn (now (plan .entry)) (now (values .entry))) x search (now (held .entry)) q i .tried ⌝ }
+    ensures bounds { λ w. ⌜ TriedBounds (now (plan .entry)) (reachedBy search) w ⌝ }
+{
+    let wanted = search.wanted;
+    let mode = wanted.mode;
+    match mode {
+        Mode::FirstN => plain_test(plan, values, x, held, i),
+        Mode::Independent => plain_test(plan, values, x, held, i),
+        Mode::Through => {
+            if holds(held, i) {
+                return plain(i, Verdict::Held);
+            }
+            let beneath = inner(wanted.n, q, i);
+            let k = rank(plan, values, x, beneath, held, 0);
+            found(k)
+        }
+    }
+}
+
+// One turn of a rank: a descent, and the test of what it comes to.
+fn turn<'a, 'b>(
+    plan: &'a Plan,
+    values: &'a Values,
+    x: u32,
+    search: Search,
+    held: &'b [u32],
     s: State,
 ) -> Turn
     requires { ⌜ Sound (now plan) ⌝ }
     requires { ⌜ SearchBounds search × (s .at < 256) × Going s ⌝ }
-    ensures { λ k. ⌜ k ≡ turnAt (viewIn (now (plan .entry)) (now (values .entry))) x search (now (entries .entry)) s .turn ⌝ }
-    ensures bounds { λ k. ⌜ TurnBounds (now (plan .entry)) (search .wanted .t) k ⌝ }
+    ensures { λ k. ⌜ k ≡ turnAt (viewIn (now (plan .entry)) (now (values .entry))) x search (now (held .entry)) s .turn ⌝ }
+    ensures bounds { λ k. ⌜ TurnBounds (now (plan .entry)) (reachedBy search) k ⌝ }
 {
     let t = search.wanted.t;
     let start = search.start;
@@ -146,23 +248,26 @@ pub fn turn<'a, 'b>(
     let l = descent::descend(plan, values, x, t, q, s.at);
     let drawn = l.drawn;
     let Drawn::Winner(i) = drawn else {
-        return Turn::Fail(failed_to(start, s));
+        return Turn::Fail(failed_to(start, 0, s));
     };
     if descent::type_of(plan, i) != t {
-        return Turn::Fail(failed_to(start, s));
+        return Turn::Fail(failed_to(start, 0, s));
     }
-    let w = verdict(plan, values, x, entries, i);
-    on_verdict(start, s, l.bucket, i, w)
+    let w = test(plan, values, x, search, held, q, i);
+    on_tried(start, s, l.bucket, i, w)
 }
 
-// What a rank ends in.
-fn rank_end(i: u32, s: State) -> Ranked
-    ensures { λ k. ⌜ k ≡ rankEnd i s ⌝ }
+// What a rank ends in: item i held and e put out, k tries having been made within the last test.
+pub fn rank_end(i: u32, e: u32, k: u32, s: State) -> Ranked
+    requires { ⌜ (s .inner ≤ 2500) × (k ≤ 50) ⌝ }
+    ensures { λ z. ⌜ z ≡ rankEnd i e k s ⌝ }
 {
     Ranked {
-        entry: i,
+        item: i,
+        entry: e,
         fr: s.fr,
         f: s.f,
+        inner: s.inner + k,
     }
 }
 
@@ -172,29 +277,30 @@ pub fn rank<'a, 'b>(
     values: &'a Values,
     x: u32,
     search: Search,
-    entries: &'b [u32],
+    held: &'b [u32],
     f0: u32,
 ) -> Ranked
     requires { ⌜ Sound (now plan) ⌝ }
     requires { ⌜ SearchBounds search × (f0 ≤ 1000) ⌝ }
-    ensures { λ k. ⌜ k ≡ rankAt (viewIn (now (plan .entry)) (now (values .entry))) x search (now (entries .entry)) f0 .ranked ⌝ }
-    ensures bounds { λ k. ⌜ RankBounds (now (plan .entry)) (search .wanted .t) f0 k ⌝ }
+    ensures { λ k. ⌜ k ≡ rankAt (viewIn (now (plan .entry)) (now (values .entry))) x search (now (held .entry)) f0 .ranked ⌝ }
+    ensures bounds { λ k. ⌜ RankBounds (now (plan .entry)) (reachedBy search) f0 k ⌝ }
 {
     let mut s = State {
         at: search.start,
         fr: 0,
         f: f0,
+        inner: 0,
     };
     while s.fr < 50 {
-        let k = turn(plan, values, x, search, entries, s);
+        let k = turn(plan, values, x, search, held, s);
         match k {
-            Turn::Fill(i) => {
-                return rank_end(i, s);
+            Turn::Fill(i, e, j) => {
+                return rank_end(i, e, j, s);
             }
             Turn::Fail(next) => {
                 s = next;
             }
         }
     }
-    rank_end(HOLE, s)
+    rank_end(HOLE, HOLE, 0, s)
 }

@@ -11,7 +11,7 @@ use Rattle.definitions.specs.View.{View}
 use Rattle.hierarchy.specs.Arrays.{viewIn}
 use Rattle.blocks.specs.Products.{productAfter}
 use Rattle.placement.specs.Progress.{Acted}
-use Rattle.causes.specs.Beside.{Able, Worked, leaves-holes, workable-above, worked-take, worked-mode, worked-emit, worked-idle}
+use Rattle.causes.specs.Beside.{Able, Worked, leaves-holes, workable-above, worked-take, worked-select, worked-emit, worked-idle}
 use Rattle.causes.proofs.worked.Statement.{statement}
 use Rattle.causes.proofs.worked.Tie as tie
 
@@ -45,7 +45,7 @@ leads-new c = let s = begin c in subst (λ (a : Action). Acted (new s) (s .args 
 
 -- the arrays of the working lists
 lengths : (s : tie.Start) → (length (s .args .p .old .working) ≡ 16) × (length (s .args .o .working) ≡ 16) × (length (s .args .n .working) ≡ 16)
-lengths s = (search needs, search needs, search needs)
+lengths s = (search needs, search needs, search (needs, s .good .1 .1 .1 .1 .1))
 
 enum-told : tie.Need-enum-told
 enum-told c = search needs
@@ -63,7 +63,7 @@ causes-of-requires c κs =
     let d = f .2 in
     let o = leads-old k in (
       s .pre .0 .0,
-      (leaves-holes _ _ _ i, d .0, d .1, o .1 .0, workable-above (p .old .working) (p .old .len) _ (s .args .o .len) (omega (arith, lengths s .0, f .0 .0)) (d .3) (o .2 .len)),
+      (d .0, d .1, d .4, o .1 .0, workable-above (p .old .working) (p .old .len) _ (s .args .o .len) (omega (arith, lengths s .0, f .0 .0)) (d .3) (o .2 .len)),
     )
 
 enum-told-2 : tie.Need-enum-told-2
@@ -86,7 +86,7 @@ returns-2 c =
     let o = leads-old k in
     let n = leads-new k in
     subst (Goal s (c .causes-of .result)) (sym (k .a .given .1))
-    (worked-mode (old s) (new s) (s .args .x) (s .args .p) _ _ _ (s .args .o) (s .args .n) (c .causes-of .result) (leaves-holes _ _ _ i) (omega (arith, w .0, f .0 .0)) o n
+    (worked-select (old s) (new s) (s .args .x) (s .args .p) _ _ _ (s .args .o) (s .args .n) (c .causes-of .result) (leaves-holes _ _ _ i) (omega (arith, w .0, f .0 .0)) o n
     (omega (arith, w .1, o .1 .0)) (omega (arith, w .2, n .1 .0)) (c .causes-of .ensures))
 
 returns-3 : tie.Need-returns-3

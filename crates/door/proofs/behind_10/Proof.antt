@@ -34,27 +34,38 @@ left11 : (c : tie.Else1) → Left 10 11 (mapOf (c .before .before .before .befor
 unfolding mapQuestions behind
 left11 c = passed (all-left 10 _) refl (c .before .in-blocks .ensures) (c .if1 .left)
 
-slim-requires : tie.Need-slim-requires
-slim-requires c κs = (search needs, in-blocks _ (yes (c .before .in-blocks .ensures) (c .if1 .left)) .most)
+typed-requires : tie.Need-typed-requires
+typed-requires c κs = search needs
 
 returns-2 : tie.Need-returns-2
 unfolding mapQuestions behind
-returns-2 c = refused (left11 (c .before .before)) refl (c .before .slim .ensures) (c .if2 .taken)
+returns-2 c = refused (left11 (c .before .before)) refl (c .before .typed .ensures) (c .if2 .taken)
 
-left12 : (c : tie.Else2) → Left 10 12 (mapOf (c .before .before .before .before .before .before .before .before .args .t .now))
+left21 : (c : tie.Else2) → Left 10 21 (mapOf (c .before .before .before .before .before .before .before .before .args .t .now))
 unfolding mapQuestions behind
-left12 c = passed (left11 (c .before .before)) refl (c .before .slim .ensures) (c .if2 .left)
+left21 c = passed (left11 (c .before .before)) refl (c .before .typed .ensures) (c .if2 .left)
+
+slim-requires : tie.Need-slim-requires
+slim-requires c κs = let e1 = c .before .before in (search needs, in-blocks _ (yes (e1 .before .in-blocks .ensures) (e1 .if1 .left)) .most)
+
+returns-3 : tie.Need-returns-3
+unfolding mapQuestions behind
+returns-3 c = refused (left21 (c .before .before)) refl (c .before .slim .ensures) (c .if3 .taken)
+
+left12 : (c : tie.Else3) → Left 10 12 (mapOf (c .before .before .before .before .before .before .before .before .before .before .args .t .now))
+unfolding mapQuestions behind
+left12 c = passed (left21 (c .before .before)) refl (c .before .slim .ensures) (c .if3 .left)
 
 light-requires : tie.Need-light-requires
 light-requires c κs = search needs
 
-returns-3 : tie.Need-returns-3
-unfolding mapQuestions behind
-returns-3 c = refused (left12 (c .before .before)) refl (c .before .light .ensures) (c .if3 .taken)
-
 returns-4 : tie.Need-returns-4
+unfolding mapQuestions behind
+returns-4 c = refused (left12 (c .before .before)) refl (c .before .light .ensures) (c .if4 .taken)
+
+returns-5 : tie.Need-returns-5
 unfolding mapQuestions behind firstNo
-returns-4 c = sym (passed (left12 (c .before .before)) refl (c .before .light .ensures) (c .if3 .left) .is)
+returns-5 c = sym (passed (left12 (c .before .before)) refl (c .before .light .ensures) (c .if4 .left) .is)
 
 pub behind-10-spec : {M : Type 1} → statement M
 behind-10-spec =
@@ -64,8 +75,10 @@ behind-10-spec =
     slice-aggregate-in-blocks
     in-blocks-requires
     returns
-    slim-requires
+    typed-requires
     returns-2
-    light-requires
+    slim-requires
     returns-3
-    returns-4)
+    light-requires
+    returns-4
+    returns-5)

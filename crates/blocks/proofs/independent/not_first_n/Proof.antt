@@ -22,6 +22,9 @@ enum-told-4 c = search needs
 enum-told-5 : tie.Need-enum-told-5
 enum-told-5 c = search needs
 
+enum-told-6 : tie.Need-enum-told-6
+enum-told-6 c = search needs
+
 returns : tie.Need-returns
 unfolding notFirstN
 returns c = cc
@@ -32,7 +35,7 @@ returns-2 c = cc
 
 returns-3 : tie.Need-returns-3
 unfolding notFirstN
-returns-3 c = simp (c .enum-told3 .given .1)
+returns-3 c = cc
 
 returns-4 : tie.Need-returns-4
 unfolding notFirstN
@@ -41,6 +44,10 @@ returns-4 c = simp (c .enum-told4 .given .1)
 returns-5 : tie.Need-returns-5
 unfolding notFirstN
 returns-5 c = simp (c .enum-told5 .given .1)
+
+returns-6 : tie.Need-returns-6
+unfolding notFirstN
+returns-6 c = simp (c .enum-told6 .given .1)
 
 pub not-first-n-spec : {M : Type 1} → statement M
 not-first-n-spec =
@@ -52,8 +59,10 @@ not-first-n-spec =
     enum-told-3
     enum-told-4
     enum-told-5
+    enum-told-6
     returns
     returns-2
     returns-3
     returns-4
-    returns-5)
+    returns-5
+    returns-6)

@@ -11,6 +11,9 @@ enum-told c = search needs
 enum-known-a : tie.Need-enum-known-a
 enum-known-a c = search needs
 
+reaches-requires : tie.Need-reaches-requires
+reaches-requires c κs = search needs
+
 enum-told-2 : tie.Need-enum-told-2
 enum-told-2 c = search needs
 
@@ -23,7 +26,7 @@ returns c m = simp (c .enum-told .given .1)
 
 returns-2 : tie.Need-returns-2
 unfolding stand
-returns-2 c m = simp (c .before .before .a .given .1, lt-ltb _ _ (c .if1 .taken))
+returns-2 c m = simp (c .before .before .before .a .given .1, lt-ltb _ _ (c .before .if1 .taken), c .reaches .ensures)
 
 returns-3 : tie.Need-returns-3
 unfolding stand
@@ -47,6 +50,7 @@ proceed-spec =
     (tie.spec
     enum-told
     enum-known-a
+    reaches-requires
     enum-told-2
     enum-told-3
     returns

@@ -18,16 +18,16 @@ view s =
 select-requires : tie.Need-select-requires
 select-requires c κs = search needs
 
-add-t12 : tie.Need-add-t12
-add-t12 c = search needs
+add-t14 : tie.Need-add-t14
+add-t14 c = search needs
 
 returns : tie.Need-returns
 unfolding productAfter addedBy
 returns c =
-    let s = c .before .before .before .before .before .before in
+    let s = c .before .before .before .before .before .before .before in
     let a = s .args in
-    let k = c .before .before .before .select in
+    let k = c .before .before .before .before .select in
     (run-select (view s) (a .x) (a .p) (a .mode) (a .n) (a .t) (bareIn (k .result)) (k .ensures .0 .0), (omega (arith, k .ensures .0 .1, s .pre .1 .2 .2), omega arith), record { len = k .ensures .0 .1; emitted = omega arith; tries = omega (arith, k .ensures .0 .2) })
 
 pub selected-spec : {M : Type 1} → statement M
-selected-spec = tie.close (tie.spec select-requires add-t12 returns)
+selected-spec = tie.close (tie.spec select-requires add-t14 returns)

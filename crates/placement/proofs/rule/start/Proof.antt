@@ -5,7 +5,7 @@ use Rattle.placement.proofs.rule.start.Statement.{statement}
 use Rattle.placement.proofs.rule.start.Tie as tie
 
 returns : tie.Need-returns
-returns c = (λ v x actions. ran-start v x actions _ _, refl, refl)
+returns c = (λ v x actions. ran-start v x actions _ _ _, refl, refl)
 
 pub start-spec : {M : Type 1} → statement M
 start-spec = tie.close (tie.spec returns)
