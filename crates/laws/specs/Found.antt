@@ -1,6 +1,6 @@
--- Document 01, "Walk, select and rule": where entries come from. What a select puts out is a hole, or was drawn and has the wanted type;
--- what stands in a working list is a hole, or was taken or drawn and has the type reached. So in a loadable map each entry of a group's
--- list is a hole or a device of the map. Assumes nothing.
+-- Document 01, "Walk, select and rule": where entries come from. What a select puts out is a hole, or was drawn and has the type that the
+-- select's mode reaches; what stands in a working list is a hole, or was taken or drawn and has the type reached. So in a loadable map each
+-- entry of a group's list is a hole or a device of the map. Assumes nothing.
 use mathlib.Core.Path.{_≡_, refl, sym, _∙_, subst}
 use mathlib.Core.Bool.{Bool, true, false, cond, _&&_}
 use mathlib.Core.List.{List, [], _∷_, _++_, List·Memᴰ, List·Memᴰ·append-cases, List·Memᴰ·eq-of-singleton, Memᴰ·of-map}

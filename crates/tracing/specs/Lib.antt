@@ -1,5 +1,6 @@
 -- Every changed place's cause is traced to the edited device, one file a subject.
 pub mod Runs
+pub mod Items
 pub mod Parting
 pub mod Edited
 pub mod Traced

@@ -244,7 +244,7 @@ traced m c L ind f x k p = all-traced m c x (edited m c L f x) ind k p
 
 module _ (m : Map) (c : Change) (x : ℕ) where
   -- place q after l steps is what place p after k steps is led back to: by way of the place above it, or of an earlier place of its select
-  -- whose entries differ
+  -- whose items differ
   pub data Leads (l q : ℕ) : ℕ → ℕ → Type 0 where
     ends : Leads l q l q
     to-above : {k p n t : ℕ} {mode : Mode} → stepAt m k ≡ Select mode n t → Leads l q k (p / n) → Leads l q (suc k) p
