@@ -1,4 +1,4 @@
-/* Document 01, with select through of document 02, in plain C, sentence by sentence: what the engine is measured against. */
+/* Document 01, with changes 1 and 2 of document 02, in plain C, sentence by sentence: what the engine is measured against. */
 #include "plain.h"
 
 #include <stdlib.h>
@@ -181,7 +181,15 @@ static int rising(const uint8_t *text, size_t len) {
 
 static int is_present(const struct map *m, uint32_t item) { return item < BASE ? m->device[item] : m->present[item - BASE]; }
 
-/* Questions 7 to 10; on the way the children go into their buckets. */
+/* Question 22. */
+static int filled(const struct map *m) {
+    for (uint32_t b = 0; b < BUCKETS; b++)
+        if (m->present[b] && m->buckets[b].count == 0)
+            return 0;
+    return 1;
+}
+
+/* Questions 7 to 10, and 22 behind 9; on the way the children go into their buckets. */
 static uint32_t members(struct map *m, const uint8_t *text, size_t len) {
     static const uint8_t NONE[BASE + BUCKETS];
     static uint8_t seen[BASE + BUCKETS];
@@ -212,7 +220,7 @@ static uint32_t members(struct map *m, const uint8_t *text, size_t len) {
             b->items[b->count++] = child;
         }
     }
-    return number;
+    return number != 9 && !filled(m) ? 22 : number;
 }
 
 static int in_blocks(const struct map *m, uint32_t steps) {

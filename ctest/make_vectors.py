@@ -14,7 +14,7 @@ import sys
 
 ap = argparse.ArgumentParser()
 ap.add_argument('--oracle', required=True)
-ap.add_argument('--level', type=int, default=1)
+ap.add_argument('--level', type=int, default=2)
 ap.add_argument('--days', action='store_true')
 ARGS = ap.parse_args()
 sys.path.insert(0, ARGS.oracle)

@@ -45,6 +45,7 @@ struct crush_placing {
  *    7  Is every bucket and child of an 03, and every bucket taken, present?
  *    8  Is no item a child twice?
  *    9  Is each child's type below its bucket's?
+ *   22  Has each bucket a child? (It is put here, directly after 9. The child may weigh 0.)
  *   10  Has each bucket at most 64 children?
  *   11  Has the rule 1 to 16 steps, in blocks of take, selects and emit, with types that strictly fall from the bucket taken to 0, or to a
  *       step 5 (select through), behind which its block has no further select?

@@ -49,7 +49,7 @@ CRATE = os.path.join(HERE, '..', 'crates', 'definitions')
 ap = argparse.ArgumentParser()
 for name, value in (('seed', 1), ('maps', 4), ('edits', 2), ('damaged', 6),
                     ('walks', 1), ('leaves', 5), ('ties', 0), ('through', 4),
-                    ('keys', 500), ('per', 60), ('level', 1)):
+                    ('keys', 500), ('per', 60), ('level', 2)):
     ap.add_argument('--' + name, type=int, default=value)
 ap.add_argument('--oracle', required=True)
 ap.add_argument('--crate', default=CRATE)
@@ -188,7 +188,7 @@ def small_doc(seed, indep=None):
         firstn = any(s[0] == 2 for s in d.steps)
         if indep is not None and firstn == indep:
             continue
-        if len(d.bytes()) > 1500:
+        if len(d.bytes()) > 1500 or isinstance(loaded(d.bytes()), int):
             continue
         return rng, d
 

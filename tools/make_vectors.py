@@ -9,6 +9,7 @@ a step 5 how many there are, how many of them are filled and edited, and the mov
 of the place where following it ends."""
 import argparse
 import collections
+import itertools
 import pathlib
 import sys
 
@@ -39,6 +40,18 @@ def samples():
     yield b""
     yield text(M[:-1] + ["050008"])
     yield text(M[:4] + M[3:-1] + ["050008"])
+
+
+def orders():
+    """Questions 9, 22 and 10 answered no in one map: each choice of them, and each order of the buckets that they are answered no at."""
+    for faults in itertools.chain.from_iterable(itertools.permutations((9, 22, 10), count) for count in (1, 2, 3)):
+        good = len(faults)
+        children = {9: [65536 + good], 22: [], 10: list(range(1, 66))}
+        kids = [(b, child) for b, fault in enumerate(faults) for child in children[fault]] + [(good, 0)]
+        lines = ["0000000002"] + [f"01{d:04x}0000010000010000" for d in range(66)]
+        lines += [f"02{b:04x}01" for b in range(good + 1)] + [f"03{b:04x}{child:08x}" for b, child in kids]
+        lines += [f"0401{0:04x}{good:04x}", M[5], M[6]]
+        yield text(lines + [f"05{len(lines):04x}"])
 
 
 def answer_of(reference, crush, level, frames, edits):
@@ -88,6 +101,8 @@ def inputs(gen, level, large):
     """Kind, edge and bytes of each input; an edge whose inputs are large comes once."""
     for given in samples():
         yield "samples", "samples", given
+    for given in orders():
+        yield "orders", "orders", given
     for kind, seeds in SEEDS.items():
         for seed in range(seeds):
             edge = edge_of(gen, seed) if kind == "edges" else kind
@@ -123,7 +138,7 @@ def goes_through(frames):
 def main():
     parser = argparse.ArgumentParser(description=__doc__)
     parser.add_argument("--oracle", type=pathlib.Path, required=True)
-    parser.add_argument("--level", type=int, default=1)
+    parser.add_argument("--level", type=int, default=2)
     options = parser.parse_args()
     sys.path.insert(0, str(options.oracle))
     import crush

@@ -1,5 +1,5 @@
--- Document 01, "Questions at the door", load: questions 1 to 13, and 21 of document 02 behind 11, one definition each. 1 is put to the bytes,
--- 2 to their lines, 3 and 4 to the frames on these, and the others to the map that the frames hold.
+-- Document 01, "Questions at the door", load: questions 1 to 13, and of document 02 22 behind 9 and 21 behind 11, one definition each. 1 is
+-- put to the bytes, 2 to their lines, 3 and 4 to the frames on these, and the others to the map that the frames hold.
 use mathlib.Core.Bool.{Bool, true, false, cond, not, _&&_, _||_}
 use mathlib.Core.List.{List, [], _∷_, _++_, map}
 use Prim.Native.Nat.{ℕ, zero, suc, _+_, _-_, _*_}
@@ -124,6 +124,11 @@ once m = distinct (map (λ (l : Link). l .child) (m .links))
 unfoldable pub falling : Map → Bool
 falling m = every (λ (l : Link). ltb (typeOf m (l .child)) (bucketType m (l .bucket))) (m .links)
 
+-- 22. "A bucket without children now stops the load. A bucket whose children all weigh 0 is still taken .. . An unfilled bucket answers 22,
+-- asked directly after question 9."
+unfoldable pub filled : Map → Bool
+filled m = every (λ (b : Bucket). ltb 0 (length (childrenOf m (b .number)))) (m .buckets)
+
 -- 10. "At most 64 children?"
 unfoldable pub narrow : Map → Bool
 narrow m = every (λ (b : Bucket). leb (length (childrenOf m (b .number))) 64) (m .buckets)
@@ -195,6 +200,7 @@ mapQuestions m =
     ∷ (7, present m)
     ∷ (8, once m)
     ∷ (9, falling m)
+    ∷ (22, filled m)
     ∷ (10, narrow m)
     ∷ (11, inBlocks m)
     ∷ (21, typed m)

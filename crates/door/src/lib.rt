@@ -1,4 +1,5 @@
-// Document 01, "Questions at the door": load; and question 21 of document 02, which is "asked right after question 11".
+// Document 01, "Questions at the door": load; and of document 02 question 22, "asked directly after question 9", and 21, "asked right after
+// question 11".
 ghost use mathlib.Core.Path.{_≡_};
 ghost use mathlib.Core.Bool.{true};
 ghost use Prim.Native.Nat.{_-_};
@@ -17,11 +18,13 @@ use blocks::typed;
 use blocks::widths;
 use frames::lines;
 use frames::shape;
+use members::counts;
 use members::falling;
 use members::levels;
-use members::narrow;
 use members::once;
 use members::present;
+use members::sizes;
+use members::sizes::Asked;
 use ranges::light;
 use ranges::ranged;
 use ranges::rising;
@@ -89,7 +92,11 @@ fn behind_6(t: &[u8], s: Shape, table: &[u32]) -> u32
     if !falling::falling(t, s, table) {
         return 9;
     }
-    if !narrow::narrow(t, s) {
+    let counts = counts::counts(t, s);
+    if !sizes::every_bucket(t, s, &counts, Asked::Filled) {
+        return 22;
+    }
+    if !sizes::every_bucket(t, s, &counts, Asked::Narrow) {
         return 10;
     }
     behind_10(t, s, table)

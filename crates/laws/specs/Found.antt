@@ -1,16 +1,16 @@
 -- Document 01, "Walk, select and rule": where entries come from. What a select puts out is a hole, or was drawn and has the type that the
 -- select's mode reaches; what stands in a working list is a hole, or was taken or drawn and has the type reached. So in a loadable map each
 -- entry of a group's list is a hole or a device of the map. Assumes nothing.
-use mathlib.Core.Path.{_≡_, refl, sym, _∙_, subst}
+use mathlib.Core.Path.{_≡_, refl, _∙_, subst}
 use mathlib.Core.Bool.{Bool, true, false, cond, _&&_}
-use mathlib.Core.List.{List, [], _∷_, _++_, List·Memᴰ, List·Memᴰ·append-cases, List·Memᴰ·eq-of-singleton, Memᴰ·of-map}
+use mathlib.Core.List.{List, [], _∷_, List·Memᴰ, Memᴰ·of-map}
 use mathlib.Core.Logic.{_⊎_, inl, inr, ⊎-elim}
 use Prim.Native.Nat.{ℕ, zero, suc, _-_, _<_, _≤_}
 use native.Mathlib.Nat.{le-of-lt}
 use native.Mathlib.Omega.{arith}
 use lib.Dec.{ltb, eqb}
-use lib.ListN.{length, getD, replicate}
-use borrow.Author.Tests.{eqb-true, leb-true, le-leb}
+use lib.ListN.{length, getD}
+use borrow.Author.Tests.{eqb-true, eqb-false, leb-true, le-leb}
 use Rattle.definitions.specs.declared.Action.{Action}
 use Rattle.definitions.specs.declared.Action.the-variants.{Take, Select, Emit, Idle}
 use Rattle.definitions.specs.declared.Bucket.{Bucket}
@@ -35,7 +35,7 @@ use Rattle.definitions.specs.Select.{Place, Selected, entriesOf, itemsOf, place
 use Rattle.definitions.specs.Rule.{Run, taken, selected, act, runTo, widthOf, padded, placedBy, placedOf}
 use Rattle.definitions.specs.Load.{deviceRanged, bucketRanged, hasDevice, hasBucket, hasItem, takesPresent, reaches}
 use Rattle.laws.specs.Lists.{both, every-at}
-use Rattle.laws.specs.Members.{mem-every, mem-at}
+use Rattle.laws.specs.Members.{mem-every, mem-at, Each, each-none, each-one, each-more, each-copies}
 use Rattle.laws.specs.Counting.{number-at, lookup-is}
 use Rattle.laws.specs.Draw.{winner-child}
 use Rattle.laws.specs.Loadable.{Loadable, BucketRanged, ChildRanged, ranged-is, device-ranged, bucket-ranged, rising-is, present-is}
@@ -60,7 +60,7 @@ no-fill s i e k q = let z : _≡_ {A = ℕ} 0 1 = cc in omega arith
 
 -- what a descent comes to was drawn
 module _ (v : View) (x t : ℕ) where
-  descent-draws : (r k b i : ℕ) → descendIn v x t r k b .landed .drawn ≡ Winner i → DrawnBy v x i
+  pub descent-draws : (r k b i : ℕ) → descendIn v x t r k b .landed .drawn ≡ Winner i → DrawnBy v x i
   unfolding descendIn onDrawn onWinner landing deeper
   descent-draws r zero b i e = absurd (no-winner i e)
   descent-draws r (suc k) b i e = from (drawAt v x r b) refl e (λ c. descent-draws r k c i)
@@ -170,74 +170,66 @@ module _ (v : View) (x : ℕ) (held : List ℕ) where
 
 -- the entry of each place is such
 abbrev pub Entries : (ℕ → Type 0) → List Place → Type 0
-Entries P ps = (p : Place) → List·Memᴰ p ps → P (p .entry)
+Entries P ps = Each (λ (p : Place). P (p .entry)) ps
 
-module _ (P : ℕ → Type 0) where
-  none : Entries P []
-  none p i = elim i [ ]
+-- so is each entry
+pub each-entry : (P : ℕ → Type 0) (ps : List Place) → Entries P ps → (e : ℕ) → List·Memᴰ e (entriesOf ps) → P e
+unfolding entriesOf
+each-entry P ps h e i = let (p, j, q) = Memᴰ·of-map (λ (p : Place). p .entry) ps i in subst P q (h p j)
 
-  one : (p : Place) → P (p .entry) → Entries P (p ∷ [])
-  one p h q i = subst (λ (o : Place). P (o .entry)) (sym (List·Memᴰ·eq-of-singleton i)) h
-
-  more : (ps qs : List Place) → Entries P ps → Entries P qs → Entries P (ps ++ qs)
-  more ps qs h k p i = ⊎-elim (h p) (k p) (List·Memᴰ·append-cases ps i)
-
-  copies : (n : ℕ) (p : Place) → P (p .entry) → Entries P (replicate n p)
-  copies zero p h = none
-  copies (suc n) p h = more (p ∷ []) (replicate n p) (one p h) (copies n p h)
-
-  -- so is each entry
-  pub each-entry : (ps : List Place) → Entries P ps → (e : ℕ) → List·Memᴰ e (entriesOf ps) → P e
-  unfolding entriesOf
-  each-entry ps h e i = let (p, j, q) = Memᴰ·of-map (λ (p : Place). p .entry) ps i in subst P q (h p j)
-
-module _ (v : View) (x : ℕ) (mode : Mode) (n t : ℕ) where
-  -- the type that the mode reaches
-  abbrev F : ℕ → Type 0
-  F = Found v x (reaches mode t)
-
-  abbrev Founds : List Place → Type 0
-  Founds = Entries F
-
-  out-found : (o : Mode) (p : Place) → F (p .entry) → Founds (putOut o p)
+-- what holds of each hole under a place of the working list, and of what each rank at such a place puts out, holds of what a select puts out
+module _ (v : View) (x : ℕ) (mode : Mode) (n t : ℕ) (working : List Place) (Q : Place → Type 0)
+    (under : (above : Place) → List·Memᴰ above working → Q (record { item = hole; entry = hole; walk = above .walk }))
+    (ranked : (above : Place) → List·Memᴰ above working → (above .entry ≡ hole → ⊥) → (held : List ℕ) (r f₀ : ℕ)
+    → Q (placeUnder above (rankOf v x mode n t held (bucketNumber (above .entry)) r f₀))) where
+  out-each : (o : Mode) (p : Place) → Q p → Each Q (putOut o p)
   unfolding putOut
-  out-found Independent p h = one F p h
-  out-found Through p h = one F p h
-  out-found FirstN p h = go (eqb (p .entry) hole)
+  out-each Independent p h = each-one Q p h
+  out-each Through p h = each-one Q p h
+  out-each FirstN p h = go (eqb (p .entry) hole)
     where
-      go : (u : Bool) → Founds (cond u [] (p ∷ []))
-      go true = none F
-      go false = one F p h
+      go : (u : Bool) → Each Q (cond u [] (p ∷ []))
+      go true = each-none Q
+      go false = each-one Q p h
 
-  holes-found : (o : Mode) (above : Place) → Founds (holesUnder o n above)
+  holes-each : (o : Mode) (above : Place) → List·Memᴰ above working → Each Q (holesUnder o n above)
   unfolding holesUnder
-  holes-found Independent above = copies F n _ (inl refl)
-  holes-found Through above = copies F n _ (inl refl)
-  holes-found FirstN above = none F
+  holes-each Independent above i = each-copies Q n _ (under above i)
+  holes-each Through above i = each-copies Q n _ (under above i)
+  holes-each FirstN above i = each-none Q
 
-  ranks-found : (above : Place) (s : Selected) (k : ℕ) → Founds (s .places) → Founds (ranksTo v x mode n t above s k .places)
-  unfolding ranksTo nextRank withRank placeUnder
-  ranks-found above s zero h = h
-  ranks-found above s (suc k) h =
+  ranks-each : (above : Place) (s : Selected) (k : ℕ) → List·Memᴰ above working → (above .entry ≡ hole → ⊥) → Each Q (s .places)
+      → Each Q (ranksTo v x mode n t above s k .places)
+  unfolding ranksTo nextRank withRank
+  ranks-each above s zero i f h = h
+  ranks-each above s (suc k) i f h =
       let o = ranksTo v x mode n t above s k in
-      more F (o .places) _ (ranks-found above s k h)
-      (out-found mode _ (rank-found v x (itemsOf (o .places)) mode n t (bucketNumber (above .entry)) (suc k) (o .f)))
+      each-more Q (o .places) _ (ranks-each above s k i f h) (out-each mode _ (ranked above i f (itemsOf (o .places)) (suc k) (o .f)))
 
-  at-found : (above : Place) (s : Selected) (u : Bool) → Founds (s .places) → Founds (selectAt v x mode n t above s u .places)
+  at-each : (above : Place) (s : Selected) → List·Memᴰ above working → Each Q (s .places) → (u : Bool) → eqb (above .entry) hole ≡ u
+      → Each Q (selectAt v x mode n t above s u .places)
   unfolding selectAt withHoles
-  at-found above s true h = more F (s .places) _ h (holes-found mode above)
-  at-found above s false h = ranks-found above s n h
+  at-each above s i h true e = each-more Q (s .places) _ h (holes-each mode above i)
+  at-each above s i h false e = ranks-each above s n i (eqb-false (above .entry) hole e) h
 
-  to-found : (working : List Place) (k : ℕ) → Founds (selectTo v x mode n t working k .places)
+  to-each : (k : ℕ) → k ≤ length working → Each Q (selectTo v x mode n t working k .places)
   unfolding selectTo
-  to-found working zero = none F
-  to-found working (suc k) =
-      at-found (getD working k nowhere) (selectTo v x mode n t working k) (eqb (getD working k nowhere .entry) hole) (to-found working k)
+  to-each zero l = each-none Q
+  to-each (suc k) l =
+      let above = getD working k nowhere in
+      at-each above (selectTo v x mode n t working k) (mem-at nowhere working k l) (to-each k (omega arith)) (eqb (above .entry) hole) refl
 
-  -- each entry that a select puts out is a hole, or an item that was drawn, of the type that the mode reaches
-  pub select-found : (working : List Place) → Entries (Found v x (reaches mode t)) (selectOf v x mode n t working .places)
+  pub select-each : Each Q (selectOf v x mode n t working .places)
   unfolding selectOf
-  select-found working = to-found working (length working)
+  select-each = to-each (length working) (omega arith)
+
+-- each entry that a select puts out is a hole, or an item that was drawn, of the type that the mode reaches
+pub select-found : (v : View) (x : ℕ) (mode : Mode) (n t : ℕ) (working : List Place)
+    → Entries (Found v x (reaches mode t)) (selectOf v x mode n t working .places)
+unfolding placeUnder
+select-found v x mode n t working =
+    select-each v x mode n t working (λ (p : Place). Found v x (reaches mode t) (p .entry)) (λ above i. inl refl)
+    (λ above i f held r f₀. rank-found v x held mode n t (bucketNumber (above .entry)) r f₀)
 
 -- ---- rule
 
@@ -251,7 +243,7 @@ module _ (v : View) (x : ℕ) (types : ℕ → ℕ) (actions : List Action) (P :
   act-reached : (s : Run) (k u : ℕ) (a : Action) → k < length actions → getD actions k Idle ≡ a → Entries (Reached v P u) (s .working)
       → Entries (Reached v P (reachedBy types u a)) (act v x s a .working)
   unfolding act taken selected reachedBy
-  act-reached s k u (Take b) l e h = one (Reached v P (types b)) _ (inr (takes k b l e))
+  act-reached s k u (Take b) l e h = each-one (λ (p : Place). Reached v P (types b) (p .entry)) _ (inr (takes k b l e))
   act-reached s k u (Select mode n t) l e h =
       λ p i. ⊎-elim (λ q. inl q) (λ (d, q). inr (drawn (p .entry) d, q)) (select-found v x mode n t (s .working) p i)
   act-reached s k u Emit l e h = h
@@ -260,7 +252,7 @@ module _ (v : View) (x : ℕ) (types : ℕ → ℕ) (actions : List Action) (P :
   -- after the first k steps each entry of the working list is a hole, or such an item of the type reached
   pub working-reached : (k : ℕ) → k ≤ length actions → Entries (Reached v P (reached types actions k)) (runTo v x actions k .working)
   unfolding runTo reached
-  working-reached zero h = none (Reached v P 0)
+  working-reached zero h = each-none (λ (p : Place). Reached v P 0 (p .entry))
   working-reached (suc k) h =
       act-reached (runTo v x actions k) k (reached types actions k) (getD actions k Idle) h refl (working-reached k (omega arith))
 
@@ -268,14 +260,14 @@ module _ (v : View) (x : ℕ) (types : ℕ → ℕ) (actions : List Action) (P :
   module _ (falls : (k : ℕ) → k < length actions → getD actions k Idle ≡ Emit → reached types actions k ≡ 0) where
     pub list-reached : (k : ℕ) → k ≤ length actions → Entries (Reached v P 0) (runTo v x actions k .list)
     unfolding runTo act selected
-    list-reached zero h = none (Reached v P 0)
+    list-reached zero h = each-none (λ (p : Place). Reached v P 0 (p .entry))
     list-reached (suc k) h = go (getD actions k Idle) refl (list-reached k (omega arith))
       where
         go : (a : Action) → getD actions k Idle ≡ a → Entries (Reached v P 0) (runTo v x actions k .list)
             → Entries (Reached v P 0) (act v x (runTo v x actions k) a .list)
         go (Take b) e l = l
         go (Select mode n t) e l = l
-        go Emit e l = more (Reached v P 0) (runTo v x actions k .list) _ l (rw (falls k h e) at (working-reached k (omega arith)))
+        go Emit e l = each-more (λ (p : Place). Reached v P 0 (p .entry)) (runTo v x actions k .list) _ l (rw (falls k h e) at (working-reached k (omega arith)))
         go Idle e l = l
 
 -- ---- in a loadable map
@@ -314,22 +306,31 @@ module _ (m : Map) (L : Loadable m) where
       go true q z = absurd (omega (arith, z, present-typed (bucketNumber i) q))
       go false q z = q
 
-  -- an item that is drawn is present
+  -- a child is present
+  pub child-present : (b c : ℕ) → List·Memᴰ c (childrenOf m b) → hasItem m c ≡ true
+  child-present b c i =
+      let (k, k∈, at, is) = kid-link m (bucketItem b) c (rw (kids-bucket m b) i) in
+      let there = both (hasBucket m (k .bucket)) (hasItem m (k .child)) (mem-every (λ (j : Link). hasBucket m (j .bucket) && hasItem m (j .child)) k∈ (present-is m (L .present) .links)) .1 in
+      rw is at there
+
+  -- and so is an item that is drawn
   pub drawn-present : (x i : ℕ) → DrawnBy (viewOf m) x i → hasItem m i ≡ true
   unfolding viewOf drawAt
   drawn-present x i (r, b, e) =
       let (n, l, q, p) = winner-child S x r (childrenOf m b) (weightsOf m b) i e in
-      let (k, k∈, at, is) = kid-link m (bucketItem b) i (rw (kids-bucket m b, ← q) (mem-at 0 (childrenOf m b) n l)) in
-      let there = both (hasBucket m (k .bucket)) (hasItem m (k .child)) (mem-every (λ (j : Link). hasBucket m (j .bucket) && hasItem m (j .child)) k∈ (present-is m (L .present) .links)) .1 in
-      rw is at there
+      child-present b i (rw (← q) (mem-at 0 (childrenOf m b) n l))
 
   -- and so is a bucket that is taken
+  pub taken-bucket : (k b : ℕ) → k < length (actionsOf m) → getD (actionsOf m) k Idle ≡ Take b → hasBucket m b ≡ true
+  unfolding takesPresent
+  taken-bucket k b h e = rw e at (every-at (takesPresent m) (actionsOf m) k Idle (present-is m (L .present) .takes) h)
+
   taken-present : (k b : ℕ) → k < length (actionsOf m) → getD (actionsOf m) k Idle ≡ Take b
       → (hasItem m (bucketItem b) ≡ true) × (typeOf m (bucketItem b) ≡ bucketType m b)
-  unfolding hasItem takesPresent
+  unfolding hasItem
   taken-present k b h e =
       let q : bucketNumber (bucketItem b) ≡ b = omega arith in
-      (rw (le-leb 65536 (bucketItem b) (omega arith), q) (rw e at (every-at (takesPresent m) (actionsOf m) k Idle (present-is m (L .present) .takes) h)), type-bucket m b)
+      (rw (le-leb 65536 (bucketItem b) (omega arith), q) (taken-bucket k b h e), type-bucket m b)
 
   module _ (x : ℕ) where
     abbrev Item : ℕ → Type 0
@@ -356,4 +357,4 @@ module _ (m : Map) (L : Loadable m) where
     list-devices =
         let ps = runTo (viewOf m) x (actionsOf m) (length (actionsOf m)) .list in
         each-entry _ (padded (widthOf m) ps)
-        (more _ ps _ (emitted-devices (length (actionsOf m)) (omega arith)) (copies _ (widthOf m - length ps) nowhere (inl refl)))
+        (each-more _ ps _ (emitted-devices (length (actionsOf m)) (omega arith)) (each-copies _ (widthOf m - length ps) nowhere (inl refl)))

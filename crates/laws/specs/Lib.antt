@@ -13,4 +13,6 @@ pub mod Fuel
 pub mod Walk
 pub mod Forest
 pub mod Found
+pub mod Filled
+pub mod Origins
 pub mod Tries

@@ -21,7 +21,7 @@ use Rattle.definitions.specs.Lists.{every, someOf, linked, sum, firstNo}
 use Rattle.definitions.specs.Map.{Map, isBucket, bucketNumber, actionsOf}
 use Rattle.definitions.specs.View.{childrenOf, bucketType, typeBy, typeOf, acceptanceOf, deviceWeight}
 use Rattle.definitions.specs.Rule.{widths, widthOf}
-use Rattle.definitions.specs.Load.{within, deviceRanged, bucketRanged, linkRanged, stepRanged, ranged, linkBelow, rising, hasDevice, hasBucket, hasItem, takesPresent, present, once, falling, narrow, stand, standing, isOutside, inBlocks, typed, slim, light, mapQuestions, loadable}
+use Rattle.definitions.specs.Load.{within, deviceRanged, bucketRanged, linkRanged, stepRanged, ranged, linkBelow, rising, hasDevice, hasBucket, hasItem, takesPresent, present, once, falling, filled, narrow, stand, standing, isOutside, inBlocks, typed, slim, light, mapQuestions, loadable}
 use Rattle.definitions.specs.Edit.{withAcceptance, withWeight, put}
 use Rattle.definitions.specs.Calls.{fits}
 use Rattle.laws.specs.Lists.{both, every-map, every-mono}
@@ -37,6 +37,7 @@ pub record Loadable (m : Map) : Type 0 where
   pub present : present m ≡ true
   pub once : once m ≡ true
   pub falling : falling m ≡ true
+  pub filled : filled m ≡ true
   pub narrow : narrow m ≡ true
   pub inBlocks : inBlocks m ≡ true
   pub typed : typed m ≡ true
@@ -48,12 +49,12 @@ pub loadable-is : (m : Map) → loadable m ≡ true → Loadable m
 unfolding loadable mapQuestions every answerTo
 loadable-is m e =
     let y = answered (mapQuestions m) refl (eqb-true _ _ e) in
-    record { ranged = y 5; rising = y 6; present = y 7; once = y 8; falling = y 9; narrow = y 10; inBlocks = y 11; typed = y 21; slim = y 12; light = y 13 }
+    record { ranged = y 5; rising = y 6; present = y 7; once = y 8; falling = y 9; filled = y 22; narrow = y 10; inBlocks = y 11; typed = y 21; slim = y 12; light = y 13 }
 
 -- and these give load's
 pub is-loadable : (m : Map) → Loadable m → loadable m ≡ true
 unfolding loadable mapQuestions firstNo
-is-loadable m l = rw (l .ranged, l .rising, l .present, l .once, l .falling, l .narrow, l .inBlocks, l .typed, l .slim, l .light)
+is-loadable m l = rw (l .ranged, l .rising, l .present, l .once, l .falling, l .filled, l .narrow, l .inBlocks, l .typed, l .slim, l .light)
 
 -- ---- questions taken apart
 
@@ -461,6 +462,11 @@ module _ (m : Map) (c : Change) where
   unfolding falling
   put-falling = simp (put-links m c, put-type, put-bucket-type)
 
+  -- question 22
+  pub put-filled : filled (put m c) ≡ filled m
+  unfolding filled
+  put-filled = simp (put-buckets m c, put-children)
+
   -- question 10
   pub put-narrow : narrow (put m c) ≡ narrow m
   unfolding narrow
@@ -531,6 +537,7 @@ put-loadable m c l f =
       present = put-present m c ∙ l .present;
       once = put-once m c ∙ l .once;
       falling = put-falling m c ∙ l .falling;
+      filled = put-filled m c ∙ l .filled;
       narrow = put-narrow m c ∙ l .narrow;
       inBlocks = put-in-blocks m c ∙ l .inBlocks;
       typed = put-typed m c ∙ l .typed;

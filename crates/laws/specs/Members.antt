@@ -1,11 +1,12 @@
 -- Laws of membership in a list, with the definitions' tests. Assumes nothing.
-use mathlib.Core.Path.{_≡_, refl, sym, ap, _∙_}
+use mathlib.Core.Path.{_≡_, refl, sym, ap, _∙_, subst}
 use mathlib.Core.Bool.{Bool, true, false, cond, false≢true, or-true}
-use mathlib.Core.List.{List, [], _∷_, map, List·Memᴰ, List·Memᴰ·head, List·Memᴰ·tail, Memᴰ·cast, Memᴰ·map}
+use mathlib.Core.Logic.{⊎-elim}
+use mathlib.Core.List.{List, [], _∷_, _++_, map, List·Memᴰ, List·Memᴰ·head, List·Memᴰ·tail, List·Memᴰ·append-cases, List·Memᴰ·eq-of-singleton, Memᴰ·cast, Memᴰ·map}
 use Prim.Native.Nat.{ℕ, zero, suc, _<_}
 use native.Mathlib.Omega.{arith}
 use lib.Dec.{eqb}
-use lib.ListN.{length, getD}
+use lib.ListN.{length, getD, replicate}
 use borrow.Author.Tests.{eq-eqb}
 use Rattle.definitions.specs.Lists.{every, kept, has, distinct}
 use Rattle.laws.specs.Lists.{every-head, every-tail}
@@ -67,3 +68,22 @@ one-member f (List·Memᴰ·tail {x = z} {xs = zs} m) (List·Memᴰ·tail n) d e
 pub map-ext : {A B : Type 0} (v w : A → B) (xs : List A) → ((x : A) → List·Memᴰ x xs → v x ≡ w x) → map v xs ≡ map w xs
 map-ext v w [] h = refl
 map-ext v w (x ∷ xs) h = rw (h x (List·Memᴰ·head refl), map-ext v w xs (λ y m. h y (List·Memᴰ·tail m)))
+
+-- ---- what holds of each entry
+
+abbrev pub Each : {A : Type 0} → (A → Type 0) → List A → Type 0
+Each {A} P xs = (x : A) → List·Memᴰ x xs → P x
+
+module _ {A : Type 0} (P : A → Type 0) where
+  pub each-none : Each P []
+  each-none x i = elim i [ ]
+
+  pub each-one : (x : A) → P x → Each P (x ∷ [])
+  each-one x h y i = subst P (sym (List·Memᴰ·eq-of-singleton i)) h
+
+  pub each-more : (xs ys : List A) → Each P xs → Each P ys → Each P (xs ++ ys)
+  each-more xs ys h k x i = ⊎-elim (h x) (k x) (List·Memᴰ·append-cases xs i)
+
+  pub each-copies : (n : ℕ) (x : A) → P x → Each P (replicate n x)
+  each-copies zero x h = each-none
+  each-copies (suc n) x h = each-more (x ∷ []) (replicate n x) (each-one x h) (each-copies n x h)

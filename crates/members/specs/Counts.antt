@@ -5,11 +5,10 @@ use mathlib.Core.List.{List, [], _∷_, _++_}
 use Prim.Native.Nat.{ℕ, suc, _+_, _<_, _≤_}
 use native.Mathlib.Omega.{arith}
 use native.Mathlib.Numerals.{add-one}
-use lib.Dec.{leb, eqb}
+use lib.Dec.{eqb}
 use lib.ListN.{length, getD, set, take, length-append, length-map, length-set}
 use lib.Seq.{take-suc, take-all, length-take-le, getD-set-same, getD-set-other}
-use borrow.Author.Tests.{eqb-true, eqb-false, eq-eqb, le-leb, lt-leb}
-use Rattle.definitions.specs.declared.Bucket.{Bucket}
+use borrow.Author.Tests.{eqb-true, eqb-false, eq-eqb}
 use Rattle.definitions.specs.declared.Link.{Link}
 use Rattle.definitions.specs.Lists.{kept}
 use Rattle.definitions.specs.Frames.{framesIn}
@@ -98,17 +97,3 @@ tallied-all m r k h q =
 -- a text has fewer links than bytes
 pub links-few : (t : List ℕ) → Framed t → (s : Shape) → s ≡ shapeOf (framesIn t) → (k : ℕ) → k < length (mapOf t .links) → k < 65536
 links-few t h s e k l = omega (arith, link-at t h s e k l .room, plain t (h .sized) .most)
-
--- ---- question 10
-
--- of a bucket
-abbrev pub bucketNarrow : Map → Bucket → Bool
-bucketNarrow m b = leb (length (childrenOf m (b .number))) 64
-
--- and what its count says
-module _ (m : Map) (r : List ℕ) (h : Counts m r) (b : Bucket) (q : b .number ≤ 255) where
-  pub is-narrow : getD r (b .number) 0 ≤ 64 → bucketNarrow m b ≡ true
-  is-narrow l = le-leb (length (childrenOf m (b .number))) 64 (omega (arith, h .count (b .number) (omega arith)))
-
-  pub is-wide : 64 < getD r (b .number) 0 → bucketNarrow m b ≡ false
-  is-wide l = lt-leb (length (childrenOf m (b .number))) 64 (omega (arith, h .count (b .number) (omega arith)))

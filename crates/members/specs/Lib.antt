@@ -4,3 +4,4 @@ pub mod Levels
 pub mod Present
 pub mod Once
 pub mod Counts
+pub mod Sizes

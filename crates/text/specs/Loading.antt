@@ -5,7 +5,7 @@ use mathlib.Core.List.{List, _++_}
 use Prim.Native.Nat.{ℕ}
 use Rattle.definitions.specs.Lists.{every, firstNo}
 use Rattle.definitions.specs.Map.{mapOf}
-use Rattle.definitions.specs.Load.{ranged, rising, present, once, falling, narrow, inBlocks, typed, slim, light, textQuestions, mapQuestions, loadNumber}
+use Rattle.definitions.specs.Load.{ranged, rising, present, once, falling, filled, narrow, inBlocks, typed, slim, light, textQuestions, mapQuestions, loadNumber}
 use Rattle.laws.specs.Questions.{answerTo, answered}
 use Rattle.text.specs.RoundTrip.{Framed}
 
@@ -22,6 +22,7 @@ pub record Loaded (t : List ℕ) : Type 0 where
   pub present : present (mapOf t) ≡ true
   pub once : once (mapOf t) ≡ true
   pub falling : falling (mapOf t) ≡ true
+  pub filled : filled (mapOf t) ≡ true
   pub narrow : narrow (mapOf t) ≡ true
   pub inBlocks : inBlocks (mapOf t) ≡ true
   pub typed : typed (mapOf t) ≡ true
@@ -40,6 +41,7 @@ loaded t e =
       present = y 7;
       once = y 8;
       falling = y 9;
+      filled = y 22;
       narrow = y 10;
       inBlocks = y 11;
       typed = y 21;

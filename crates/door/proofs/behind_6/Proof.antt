@@ -4,6 +4,7 @@ use mathlib.Core.Path.{refl, sym, _∙_}
 use borrow.Author.Needs.{needs}
 use Rattle.definitions.specs.Map.{mapOf}
 use Rattle.definitions.specs.Load.{mapQuestions}
+use Rattle.members.specs.Sizes.{asks}
 use Rattle.door.specs.Questions.{behind, yes, Left, all-left, passed, refused}
 use Rattle.door.proofs.behind_6.Statement.{statement}
 use Rattle.door.proofs.behind_6.Tie as tie
@@ -43,22 +44,42 @@ left9 : (c : tie.Else3) → Left 6 9 (mapOf (c .before .before .before .before .
 unfolding mapQuestions behind
 left9 c = passed (left8 (c .before .before)) refl (c .before .falling .ensures) (c .if3 .left)
 
-narrow-requires : tie.Need-narrow-requires
-narrow-requires c κs = search needs
+counts-requires : tie.Need-counts-requires
+counts-requires c κs = search needs
+
+slice-aggregate-every-bucket : tie.Need-slice-aggregate-every-bucket
+slice-aggregate-every-bucket c = search needs
+
+every-bucket-requires : tie.Need-every-bucket-requires
+every-bucket-requires c κs = search needs
 
 returns-4 : tie.Need-returns-4
-unfolding mapQuestions behind
-returns-4 c = refused (left9 (c .before .before)) refl (c .before .narrow .ensures) (c .if4 .taken)
+unfolding mapQuestions behind asks
+returns-4 c = refused (left9 (c .before .before .before .before)) refl (c .before .every-bucket .ensures) (c .if4 .taken)
 
-left10 : (c : tie.Else4) → Left 6 10 (mapOf (c .before .before .before .before .before .before .before .before .before .before .args .t .now))
-unfolding mapQuestions behind
-left10 c = passed (left9 (c .before .before)) refl (c .before .narrow .ensures) (c .if4 .left)
+left22 : (c : tie.Else4) → Left 6 22 (mapOf (c .before .before .before .before .before .before .before .before .before .before .before .before .args .t .now))
+unfolding mapQuestions behind asks
+left22 c = passed (left9 (c .before .before .before .before)) refl (c .before .every-bucket .ensures) (c .if4 .left)
+
+slice-aggregate-every-bucket-2 : tie.Need-slice-aggregate-every-bucket-2
+slice-aggregate-every-bucket-2 c = search needs
+
+every-bucket-requires-2 : tie.Need-every-bucket-requires-2
+every-bucket-requires-2 c κs = search needs
+
+returns-5 : tie.Need-returns-5
+unfolding mapQuestions behind asks
+returns-5 c = refused (left22 (c .before .before .before)) refl (c .before .every-bucket2 .ensures) (c .if5 .taken)
+
+left10 : (c : tie.Else5) → Left 6 10 (mapOf (c .before .before .before .before .before .before .before .before .before .before .before .before .before .before .before .args .t .now))
+unfolding mapQuestions behind asks
+left10 c = passed (left22 (c .before .before .before)) refl (c .before .every-bucket2 .ensures) (c .if5 .left)
 
 behind-10-requires : tie.Need-behind-10-requires
 behind-10-requires c κs = search needs
 
-returns-5 : tie.Need-returns-5
-returns-5 c = c .behind-10 .ensures ∙ sym (left10 (c .before) .is)
+returns-6 : tie.Need-returns-6
+returns-6 c = c .behind-10 .ensures ∙ sym (left10 (c .before) .is)
 
 pub behind-6-spec : {M : Type 1} → statement M
 behind-6-spec =
@@ -70,7 +91,12 @@ behind-6-spec =
     returns-2
     falling-requires
     returns-3
-    narrow-requires
+    counts-requires
+    slice-aggregate-every-bucket
+    every-bucket-requires
     returns-4
+    slice-aggregate-every-bucket-2
+    every-bucket-requires-2
+    returns-5
     behind-10-requires
-    returns-5)
+    returns-6)
