@@ -23,10 +23,11 @@ use Rattle.definitions.specs.Edit.{parting, causeOf}
 use Rattle.definitions.specs.Calls.{notFirstN}
 use Rattle.hierarchy.specs.Arrays.{viewIn}
 use Rattle.laws.specs.Lists.{every-at}
+use Rattle.laws.specs.Members.{Each, each-at}
 use Rattle.tracing.specs.Runs.{leaves, rankUnder, placeAfter, select-count, select-place}
 use Rattle.placement.specs.declared.rule.Progress.{Progress}
 use Rattle.placement.specs.Bare.{BareRun, bareRunOf, bareAct, act-bare, run-bare}
-use Rattle.placement.specs.Entries.{Each, each-at, same-at}
+use Rattle.placement.specs.Entries.{same-at}
 use Rattle.placement.specs.Working.{Workable}
 use Rattle.placement.specs.Ruled.{Ready}
 use Rattle.placement.specs.Progress.{runIn, Room, Doable, Acted, Ran, ran-more, doable}

@@ -173,7 +173,7 @@ abbrev pub Entries : (ℕ → Type 0) → List Place → Type 0
 Entries P ps = Each (λ (p : Place). P (p .entry)) ps
 
 -- so is each entry
-pub each-entry : (P : ℕ → Type 0) (ps : List Place) → Entries P ps → (e : ℕ) → List·Memᴰ e (entriesOf ps) → P e
+pub each-entry : (P : ℕ → Type 0) (ps : List Place) → Entries P ps → Each P (entriesOf ps)
 unfolding entriesOf
 each-entry P ps h e i = let (p, j, q) = Memᴰ·of-map (λ (p : Place). p .entry) ps i in subst P q (h p j)
 

@@ -84,6 +84,9 @@ module _ {A : Type 0} (P : A → Type 0) where
   pub each-more : (xs ys : List A) → Each P xs → Each P ys → Each P (xs ++ ys)
   each-more xs ys h k x i = ⊎-elim (h x) (k x) (List·Memᴰ·append-cases xs i)
 
+  pub each-at : (xs : List A) (i : ℕ) (d : A) → Each P xs → i < length xs → P (getD xs i d)
+  each-at xs i d h l = h (getD xs i d) (mem-at d xs i l)
+
   pub each-copies : (n : ℕ) (x : A) → P x → Each P (replicate n x)
   each-copies zero x h = each-none
   each-copies (suc n) x h = each-more (x ∷ []) (replicate n x) (each-one x h) (each-copies n x h)

@@ -16,11 +16,11 @@ use Rattle.definitions.specs.View.{View}
 use Rattle.hierarchy.specs.declared.Rule.{Rule}
 use Rattle.hierarchy.specs.Arrays.{viewIn, actionsIn}
 use Rattle.laws.specs.Lists.{getD-mapped}
+use Rattle.laws.specs.Members.{Each}
 use Rattle.walk.specs.Searches.{Inward}
 use Rattle.blocks.specs.Products.{productAfter, addedBy, productTo, emittedTo}
 use Rattle.placement.specs.declared.rule.Progress.{Progress}
 use Rattle.placement.specs.Bare.{Bare, BareRun, bareSelect, bareSelected, bareAct, bareRunTo}
-use Rattle.placement.specs.Entries.{Each}
 use Rattle.placement.specs.Ruled.{Keeps, Ready, reachedTo}
 use Rattle.placement.specs.Working.{Workable, working-workable}
 

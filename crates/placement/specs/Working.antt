@@ -15,12 +15,12 @@ use Rattle.definitions.specs.Walk.{hole}
 use Rattle.definitions.specs.Select.{selectOf}
 use Rattle.definitions.specs.Rule.{runTo}
 use Rattle.definitions.specs.Load.{reaches}
-use Rattle.laws.specs.Found.{DrawnBy, Reached, select-found, working-reached, list-reached}
+use Rattle.laws.specs.Members.{Each}
+use Rattle.laws.specs.Found.{DrawnBy, Reached, each-entry, select-found, working-reached, list-reached}
 use Rattle.hierarchy.specs.Arrays.{bucketTypeIn, typeIn, viewIn, ItemRange, Sound}
 use Rattle.descent.specs.Descent.{type-bucket, type-device, winner-range}
 use Rattle.walk.specs.Bounds.{Typed}
 use Rattle.placement.specs.Bare.{Bare, BareRun, bareSelect, bareRunTo, select-bare, run-bare, walkless}
-use Rattle.placement.specs.Entries.{Each, each-place}
 use Rattle.placement.specs.Ruled.{reachedTo, Ready}
 
 -- an entry that a select can work on: a hole, or a bucket
@@ -49,7 +49,7 @@ select-entries {plan} sound values x mode n t working =
     let u = reaches mode t in
     let (ps, e) = walkless working in
     subst (λ (b : Bare). Each (Entry plan u) (b .entries)) (select-bare v x mode n t ps ∙ ap (bareSelect v x mode n t) e)
-    (each-place (Entry plan u) (selectOf v x mode n t ps .places)
+    (each-entry (Entry plan u) (selectOf v x mode n t ps .places)
     (λ p i. ⊎-elim (λ q. inl q) (λ ((r, b, d), q). inr (winner-range sound values x r b (p .entry) d, q)) (select-found v x mode n t ps p i)))
 
 -- ---- the lists of a run
@@ -79,7 +79,7 @@ module _ {plan values : List ℕ} {actions : List Action} (ready : Ready plan va
   pub list-small : (k : ℕ) (s : BareRun) → k ≤ length actions → s ≡ bareRunTo v x actions k → Each Small (s .list)
   list-small k s h e =
       subst (λ (r : BareRun). Each Small (r .list)) (run-bare v x actions k ∙ sym e)
-      (each-place Small (runTo v x actions k .list)
+      (each-entry Small (runTo v x actions k .list)
       (λ p i. fits (p .entry) (list-reached v x (bucketTypeIn plan) actions Rooted drawn taken emitted k h p i)))
     where
       fits : (e : ℕ) → Reached v Rooted 0 e → e < 65536
@@ -90,7 +90,7 @@ module _ {plan values : List ℕ} {actions : List Action} (ready : Ready plan va
   pub working-workable : (k : ℕ) (s : BareRun) → k ≤ length actions → s ≡ bareRunTo v x actions k → 0 < reachedTo plan actions k → Each Workable (s .working)
   working-workable k s h e p =
       subst (λ (r : BareRun). Each Workable (r .working)) (run-bare v x actions k ∙ sym e)
-      (each-place Workable (runTo v x actions k .working)
+      (each-entry Workable (runTo v x actions k .working)
       (λ a i. workable (a .entry) (working-reached v x (bucketTypeIn plan) actions Rooted drawn taken k h a i)))
     where
       workable : (e : ℕ) → Reached v Rooted (reachedTo plan actions k) e → Workable e

@@ -3,7 +3,8 @@ use mathlib.Core.Path.{sym}
 use borrow.Author.Needs.{needs}
 use lib.ListN.{List·getD-eq-default}
 use Rattle.definitions.specs.Walk.{hole}
-use Rattle.placement.specs.Entries.{each-at, same-at}
+use Rattle.laws.specs.Members.{each-at}
+use Rattle.placement.specs.Entries.{same-at}
 use Rattle.placement.specs.Working.{Small}
 use Rattle.placement.proofs.rule.place_at.Statement.{statement}
 use Rattle.placement.proofs.rule.place_at.Tie as tie

@@ -11,11 +11,11 @@ use lib.ListN.{length, getD, take}
 use lib.Seq.{getD-take, length-take-le}
 use Rattle.definitions.specs.View.{View}
 use Rattle.definitions.specs.Load.{reaches}
+use Rattle.laws.specs.Members.{Each, each-at}
 use Rattle.hierarchy.specs.Arrays.{viewIn}
 use Rattle.walk.specs.declared.Wanted.{Wanted}
 use Rattle.placement.specs.declared.select.Chosen.{Chosen}
 use Rattle.placement.specs.Bare.{Bare, BareRanks, bareWith, bareRanks, bareTo}
-use Rattle.placement.specs.Entries.{Each, each-at}
 use Rattle.placement.specs.Working.{Workable, Entry, select-entries}
 use Rattle.placement.specs.Chosen.{bareIn, ranksIn, put-nothing, put-place, ranks-start, ranks-more, to-start, to-more, to-all}
 use Rattle.placement.proofs.select.select.Statement.{statement}
