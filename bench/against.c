@@ -7,7 +7,8 @@
  * refuses the map and this one does not. The exports of the build before have been renamed from bench_ to before_ (bench/against).
  */
 #define _POSIX_C_SOURCE 200809L
-#include <stdint.h>
+#include "exports.h"
+
 #include <stdio.h>
 #include <stdlib.h>
 #include <string.h>
@@ -15,17 +16,10 @@
 
 enum { MOST = 65537, PLACES = 65536 * 4, SPACE = 1 << 20, FRAME = 14, FIRST = 11, LINE = 23 };
 
-struct filling {
-    uint32_t number;
-    size_t places;
-};
-struct made {
-    uint32_t number, moves;
-};
-uint32_t bench_load(const uint8_t *, size_t), before_load(const uint8_t *, size_t);
-struct filling bench_fill(const uint8_t *, size_t, uint16_t *, size_t), before_fill(const uint8_t *, size_t, uint16_t *, size_t);
-struct made bench_edit(uint8_t *, size_t, uint16_t *, size_t, const uint8_t *, size_t, uint8_t *, size_t),
-    before_edit(uint8_t *, size_t, uint16_t *, size_t, const uint8_t *, size_t, uint8_t *, size_t);
+/* those of the build before */
+uint32_t before_load(const uint8_t *, size_t);
+struct bench_filling before_fill(const uint8_t *, size_t, uint16_t *, size_t);
+struct bench_made before_edit(uint8_t *, size_t, uint16_t *, size_t, const uint8_t *, size_t, uint8_t *, size_t);
 
 /* What each build is lent: 0 is the one before. */
 static uint8_t map[2][MOST], space[2][SPACE];

@@ -8,6 +8,7 @@
  */
 #define _POSIX_C_SOURCE 200809L
 #include "../include/crush_place.h"
+#include "exports.h"
 #include "plain.h"
 
 #include <stdio.h>
@@ -16,20 +17,6 @@
 #include <time.h>
 
 enum { MOST = 65537, PLACES = 65536 * 4, SPACE = 1 << 20, MOVE = 23, CAUSE = 20, FIRST = 11, LINE = 23, HASHES = 100000 };
-
-/* The exports of crates/bench. */
-struct bench_filling {
-    uint32_t number;
-    size_t places;
-};
-struct bench_made {
-    uint32_t number, moves;
-};
-uint32_t bench_load(const uint8_t *map, size_t len);
-struct bench_filling bench_fill(const uint8_t *map, size_t len, uint16_t *table, size_t table_len);
-struct bench_made bench_edit(uint8_t *map, size_t len, uint16_t *table, size_t table_len, const uint8_t *frame, size_t frame_len, uint8_t *space,
-                             size_t space_len);
-uint32_t bench_hash(uint32_t p, uint32_t q);
 
 static uint8_t map[MOST], map2[MOST], space[SPACE], space2[SPACE];
 static uint16_t table[PLACES], table2[PLACES], edited[PLACES];

@@ -1,4 +1,4 @@
-/* Document 01, with changes 1 and 2 of document 02, in plain C, sentence by sentence: what the engine is measured against. */
+/* Document 01, with changes 1 to 3 of document 02, in plain C, sentence by sentence: what the engine is measured against. */
 #include "plain.h"
 
 #include <stdlib.h>
@@ -453,7 +453,11 @@ static int holds(const uint32_t *list, uint32_t n, uint32_t item) {
     return 0;
 }
 
-static int accepts(const struct map *m, uint32_t x, uint32_t item) { return item >= BASE || hash2(x, item) % 65536 < m->acceptance[item]; }
+static int accepts(const struct map *m, uint32_t x, uint32_t item) {
+    if (item >= BASE || m->acceptance[item] == 65536)
+        return 1;
+    return m->acceptance[item] != 0 && hash2(x, item) % 65536 < m->acceptance[item];
+}
 
 /* "an independent inner walk looks for one device beneath it": the device, or HOLE; r is the r' that drew the item. */
 static uint32_t find_beneath(const struct map *m, uint32_t x, uint32_t count, uint32_t item, uint32_t r, uint32_t *tries) {

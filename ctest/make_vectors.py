@@ -1,21 +1,26 @@
 #!/usr/bin/env python3
-"""Writes vectors.txt and days.txt: calls of crush_place and of crush_day_group, and what a CRUSH by another hand answers.
+"""Writes vectors.txt, days.txt and hashes.txt: calls of the engine, and what a CRUSH by another hand answers or does.
 
 usage: make_vectors.py --oracle DIR [--level L] > vectors.txt
        make_vectors.py --oracle DIR [--level L] --days > days.txt
+       make_vectors.py --oracle DIR [--level L] --hashes > hashes.txt
 
-DIR holds the reference: crush.py, fill.py and gen.py; L is the last change of document 02 that counts. A line is a call: the map's bytes in hexadecimal (or - for none); then of crush_place the
-group, the size of the space, and the answer: number, places, tries, and the bytes written in hexadecimal (or -); of crush_day_group the show,
-the day, and the answer: number and group.
+DIR holds the reference: crush.py, fill.py and gen.py; L is the last change of document 02 that counts. In vectors.txt and days.txt a line is a
+call: the map's bytes in hexadecimal (or - for none); then of crush_place the group, the size of the space, and the answer: number, places,
+tries, and the bytes written in hexadecimal (or -); of crush_day_group the show, the day, and the answer: number and group. hashes.txt has the
+lines of each map and behind them its calls (place, fill and edit), each with how many of the tests of a device that are made for it meet an
+acceptance other than 65,536 and 0.
 """
 import argparse
 import random
 import sys
+from unittest import mock
 
 ap = argparse.ArgumentParser()
 ap.add_argument('--oracle', required=True)
-ap.add_argument('--level', type=int, default=2)
+ap.add_argument('--level', type=int, default=3)
 ap.add_argument('--days', action='store_true')
+ap.add_argument('--hashes', action='store_true')
 ARGS = ap.parse_args()
 sys.path.insert(0, ARGS.oracle)
 import crush  # noqa: E402
@@ -41,7 +46,17 @@ def place(data, group, size):
     print(data.hex() or '-', group, size, number, places, tries, wrote)
 
 
+def extremes():
+    """The highest and the lowest hash of a drive's test, each met by the acceptances next to it and by those that need no hash."""
+    gen.Doc.level = ARGS.level
+    for low in (65535, 0):
+        drive, group = next((d, x) for d in range(1024) for x in range(65536) if crush.hash2(x, d, crush.S) % 65536 == low)
+        for acceptance in (65536, 65535, 1, 0):
+            place(gen.flat(65536, [(drive, 1, acceptance)], gen.block(0, (crush.INDEP, 1, 0))).bytes(), group, 2)
+
+
 def places():
+    extremes()
     for i, data, mp in maps(50, 6000):
         if isinstance(mp, int):
             place(data, 0, 64)
@@ -60,4 +75,47 @@ def days():
             print(data.hex() or '-', show, day, number, group)
 
 
-days() if ARGS.days else places()
+def accepting(rng, data, values):
+    """The bytes of a map with one of the values for each drive's acceptance."""
+    lines = data.decode().splitlines(keepends=True)
+    return ''.join(f'{line[:14]}{rng.choice(values):08x}\n' if line.startswith('01') else line for line in lines).encode()
+
+
+def asking(mp, groups):
+    """How many tests of a device meet an acceptance other than 65,536 and 0 while the groups are placed."""
+    with mock.patch.object(crush, 'accepts', wraps=crush.accepts) as tested:
+        for group in groups:
+            crush.Run(mp, group)
+    return sum(call.args[0].devices[call.args[2]][1] not in (0, 65536) for call in tested.call_args_list)
+
+
+def edits_of(rng, mp):
+    """Edits of a drive that group 0 lies on, or of any; none where a select is first-n."""
+    if any(step[0] == crush.FIRSTN for step in mp.steps):
+        return []
+    drive = rng.choice([n for n in crush.rule(mp, 0)[0] if n != 65535] or sorted(mp.devices))
+    return [('21', drive, 0), ('21', drive, 65536), ('21', drive, 32768), ('22', drive, mp.devices[drive][0] // 2)]
+
+
+def hashes_of(rng, data):
+    """The lines of a map and of its calls; none where a call has more than 200 such tests, since each is counted at a breakpoint."""
+    mp = crush.load(data, ARGS.level)
+    every = asking(mp, range(mp.G))
+    calls = [f'place {group} {asking(mp, [group])}' for group in sorted({0, mp.G - 1})]
+    calls.append(f'fill {every}')
+    for kind, drive, value in edits_of(rng, mp):
+        # both runs
+        calls.append(f'edit {kind}{drive:04x}{value:08x} {every + asking(crush.edited(mp, kind, drive, value), range(mp.G))}')
+    if all(int(call.split()[-1]) <= 200 for call in calls):
+        print(data.decode() + '\n'.join(calls))
+
+
+def hashes():
+    rng = random.Random(3)
+    for _, data, mp in maps(50, 1500):
+        if not isinstance(mp, int) and mp.G * mp.W <= 60:
+            hashes_of(rng, accepting(rng, data, (65536, 65536, 0)))
+            hashes_of(rng, accepting(rng, data, (65536, 65536, 65536, 0, 1, 32768, 65535)))
+
+
+hashes() if ARGS.hashes else days() if ARGS.days else places()

@@ -2,7 +2,8 @@
  * Placing a group of the podcast archive on its drives, for the storage daemon.
  *
  * Link with the archive that `rt staticlib engine` writes (target/staticlib/libengine.a). It has no unwind tables and no debug lines: inside it a
- * debugger shows the names of functions but no lines, and a backtrace may end there.
+ * debugger shows the names of functions but no lines, and a backtrace may end there. A drive of acceptance 65,536 or 0 is tested without a hash: a
+ * breakpoint at 'jenkins::hash2' stops at the tests of the others, and once for the group of a day.
  */
 #ifndef CRUSH_PLACE_H
 #define CRUSH_PLACE_H

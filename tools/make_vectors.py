@@ -138,7 +138,7 @@ def goes_through(frames):
 def main():
     parser = argparse.ArgumentParser(description=__doc__)
     parser.add_argument("--oracle", type=pathlib.Path, required=True)
-    parser.add_argument("--level", type=int, default=2)
+    parser.add_argument("--level", type=int, default=3)
     options = parser.parse_args()
     sys.path.insert(0, str(options.oracle))
     import crush

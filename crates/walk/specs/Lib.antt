@@ -1,4 +1,5 @@
--- What the definitions say of a search, and the bounds of what a turn and a rank come to.
+-- What the definitions say of an acceptance and of a search, and the bounds of what a turn and a rank come to.
+pub mod Acceptance
 pub mod Searches
 pub mod Bounds
 pub mod Tests

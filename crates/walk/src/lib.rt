@@ -3,7 +3,8 @@
 ghost use mathlib.Core.Path.{_≡_};
 ghost use Prim.Native.Nat.{_<_, _≤_};
 ghost use Rattle.definitions.specs.Lists.{has};
-ghost use Rattle.definitions.specs.Walk.{accepted, verdictOf, plain, triesIn, found, failedTo, retryAt, onTried, rankEnd};
+ghost use Rattle.definitions.specs.Hash.{hash2};
+ghost use Rattle.definitions.specs.Walk.{accepts, accepted, verdictOf, plain, triesIn, found, failedTo, retryAt, onTried, rankEnd};
 ghost use Rattle.hierarchy.specs.Arrays.{viewIn, ItemRange, Sound};
 ghost use Rattle.walk.specs.Searches.{SearchBounds, innerSearch, reachedBy, tryAt, testAt, turnAt, rankAt};
 ghost use Rattle.walk.specs.Bounds.{Going, Testable, TriedBounds, TurnBounds, RankBounds};
@@ -35,6 +36,19 @@ pub struct Search {
     pub r: u32,
 }
 
+// Does device d, of acceptance a, pass for group x? By document 02, change 3, 65,536 and 0 decide it by themselves, without a hash.
+fn decide(seed: u32, x: u32, d: u32, a: u32) -> bool
+    ensures { λ r. ⌜ r ≡ accepts (hash2 seed x d) a ⌝ }
+{
+    if a == 0 {
+        return false;
+    }
+    if 65536 <= a {
+        return true;
+    }
+    jenkins::hash2(seed, x, d) % 65536 < a
+}
+
 // Does item i pass acceptance? A bucket always does.
 pub fn accepts<'a>(plan: &'a Plan, values: &'a Values, x: u32, i: u32) -> bool
     requires { ⌜ ItemRange i ⌝ }
@@ -44,7 +58,7 @@ pub fn accepts<'a>(plan: &'a Plan, values: &'a Values, x: u32, i: u32) -> bool
     if item.is_bucket() {
         return true;
     }
-    jenkins::hash2(plan[hierarchy::SEED], x, i) % 65536 < values[i as usize]
+    decide(plan[hierarchy::SEED], x, i, values[i as usize])
 }
 
 // Is item i among those held?

@@ -1,11 +1,11 @@
--- `walk::accepts` meets its contract: a bucket passes, and a device by its hash. Assumes nothing.
+-- `walk::accepts` meets its contract: a bucket passes, and a device by its acceptance. Assumes nothing.
 use mathlib.Core.Path.{_≡_, sym, ap, _∙_}
 use mathlib.Core.Bool.{Bool}
 use Prim.Native.Nat.{_<_}
 use native.Mathlib.Omega.{arith}
 use borrow.Author.Tests.{leb-false}
 use Rattle.definitions.specs.Map.{isBucket}
-use Rattle.definitions.specs.Walk.{accepts, deviceAccepts, accepted}
+use Rattle.definitions.specs.Walk.{deviceAccepts, accepted}
 use Rattle.hierarchy.specs.Sections.{section-front}
 use Rattle.walk.specs.Bounds.{device-below}
 use borrow.Author.Needs.{needs}
@@ -26,14 +26,11 @@ returns : tie.Need-returns
 unfolding accepted
 returns c = simp (told (c .before) _ (c .if1 .taken))
 
-element-copy-out-hash2 : tie.Need-element-copy-out-hash2
-element-copy-out-hash2 c = search needs
+element-copy-out-decide : tie.Need-element-copy-out-decide
+element-copy-out-decide c = search needs
 
-hash2-requires : tie.Need-hash2-requires
-hash2-requires c κs = search needs
-
-mul-result : tie.Need-mul-result
-mul-result c = search needs
+mul-decide : tie.Need-mul-decide
+mul-decide c = search needs
 
 -- an item that is no bucket's is a device below 1,024
 below : (c : tie.Else1) → c .before .before .before .args .i < 1024
@@ -41,15 +38,18 @@ below c =
     let s = c .before .before .before in
     device-below (s .args .i) (s .pre) (leb-false 65536 (s .args .i) (told (c .before) _ (c .if1 .left)))
 
-element-copy-out-result : tie.Need-element-copy-out-result
-element-copy-out-result c = omega (arith, below (c .before .before))
+element-copy-out-decide-2 : tie.Need-element-copy-out-decide-2
+element-copy-out-decide-2 c = omega (arith, below (c .before))
+
+decide-requires : tie.Need-decide-requires
+decide-requires c κs = search needs
 
 returns-2 : tie.Need-returns-2
-unfolding accepted deviceAccepts accepts
+unfolding accepted deviceAccepts
 returns-2 c =
     let e = c .before .before .before in
     let a = e .before .before .before .args in
-    simp (told (e .before) _ (e .if1 .left), ← c .before .hash2 .ensures, section-front 1024 (a .i) (a .values .now) (below e))
+    simp (told (e .before) _ (e .if1 .left), c .decide .ensures, section-front 1024 (a .i) (a .values .now) (below e))
 
 pub accepts-spec : {M : Type 1} → statement M
-accepts-spec = tie.close (tie.spec numbered-requires is-bucket-requires returns element-copy-out-hash2 hash2-requires mul-result element-copy-out-result returns-2)
+accepts-spec = tie.close (tie.spec numbered-requires is-bucket-requires returns element-copy-out-decide mul-decide element-copy-out-decide-2 decide-requires returns-2)
