@@ -9,7 +9,6 @@
 #include "../include/crush_place.h"
 
 #include <stdio.h>
-#include <stdlib.h>
 #include <string.h>
 
 enum { MOST = 65537, PLACES = 32768, SPACE = 1 << 20, FRAME = 14 };
