@@ -16,7 +16,7 @@
 
 enum { MOST = 65537, PLACES = 65536 * 4, SPACE = 1 << 20, FRAME = 14, FIRST = 11, LINE = 23 };
 
-/* those of the build before */
+/* The exports of the build before, renamed. */
 uint32_t before_load(const uint8_t *, size_t);
 struct bench_filling before_fill(const uint8_t *, size_t, uint16_t *, size_t);
 struct bench_made before_edit(uint8_t *, size_t, uint16_t *, size_t, const uint8_t *, size_t, uint8_t *, size_t);

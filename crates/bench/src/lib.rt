@@ -1,4 +1,5 @@
-// What the benchmark in C calls of the engine and the product does not export for C: each function has the contract of the one that it calls.
+// What the benchmark and the C test call of the engine and the product does not export for C: each function has the contract of the one that it
+// calls.
 ghost use mathlib.Core.Path.{_≡_};
 ghost use Rattle.definitions.specs.Hash.{hash2};
 ghost use Rattle.definitions.specs.Calls.{loadOf, fillOf, editOf};
