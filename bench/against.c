@@ -1,10 +1,11 @@
 /*
  * Measures two builds of the engine on one map, by turns, and compares what they give byte for byte.
  *
- * usage: against MAP ROUNDS
+ * usage: against OLDER MAP ROUNDS
  *
- * A line for each call: its name, and the nanoseconds of the build before and of this one, best of all rounds; no line where the build before
- * refuses the map and this one does not. The exports of the build before have been renamed from bench_ to before_ (bench/against).
+ * A line for each call: its name, and the nanoseconds of the build before and of this one, best of all rounds. Where the build before refuses
+ * MAP it is given OLDER, the same in an earlier form; no line where it refuses that too and this one does not refuse MAP. The exports of the
+ * build before have been renamed from bench_ to before_ (bench/against).
  */
 #define _POSIX_C_SOURCE 200809L
 #include "exports.h"
@@ -24,7 +25,7 @@ struct bench_made before_edit(uint8_t *, size_t, uint16_t *, size_t, const uint8
 /* What each build is lent: 0 is the one before. */
 static uint8_t map[2][MOST], space[2][SPACE];
 static uint16_t table[2][PLACES];
-static size_t len;
+static size_t len[2], drives; /* drives: the bytes of their lines */
 
 static double now(void) {
     struct timespec t;
@@ -32,8 +33,10 @@ static double now(void) {
     return (double)t.tv_sec * 1e9 + (double)t.tv_nsec;
 }
 
+/* Of the maps, the lines of drives: an edit alters no other, and the others may be of two forms. */
 static void expect_same(const char *what) {
-    if (memcmp(map[0], map[1], len) == 0 && memcmp(table[0], table[1], sizeof table[0]) == 0 && memcmp(space[0], space[1], SPACE) == 0)
+    if (memcmp(map[0] + FIRST, map[1] + FIRST, drives) == 0 && memcmp(table[0], table[1], sizeof table[0]) == 0 &&
+        memcmp(space[0], space[1], SPACE) == 0)
         return;
     fprintf(stderr, "unequal: %s\n", what);
     exit(1);
@@ -43,17 +46,17 @@ typedef uint32_t call(int build, const char *frame);
 
 static uint32_t load(int build, const char *frame) {
     (void)frame;
-    return build == 0 ? before_load(map[0], len) : bench_load(map[1], len);
+    return (build == 0 ? before_load : bench_load)(map[build], len[build]);
 }
 
 static uint32_t fill(int build, const char *frame) {
     (void)frame;
-    return (build == 0 ? before_fill : bench_fill)(map[build], len, table[build], PLACES).number;
+    return (build == 0 ? before_fill : bench_fill)(map[build], len[build], table[build], PLACES).number;
 }
 
 static uint32_t edit(int build, const char *frame) {
     const uint8_t *f = (const uint8_t *)frame;
-    return (build == 0 ? before_edit : bench_edit)(map[build], len, table[build], PLACES, f, FRAME, space[build], SPACE).number;
+    return (build == 0 ? before_edit : bench_edit)(map[build], len[build], table[build], PLACES, f, FRAME, space[build], SPACE).number;
 }
 
 /* Each round both builds, the one ahead by turns; with frames, each is one edit and its return. */
@@ -83,23 +86,35 @@ static uint32_t field(const uint8_t *at, size_t digits) {
     return (uint32_t)strtoul(word, NULL, 16);
 }
 
-int main(int argc, char **argv) {
-    FILE *f = argc == 3 ? fopen(argv[1], "rb") : NULL;
+static void take_map(int build, const char *path) {
+    FILE *f = fopen(path, "rb");
     if (f == NULL) {
-        fprintf(stderr, "usage: against MAP ROUNDS\n");
+        perror(path);
+        exit(2);
+    }
+    len[build] = fread(map[build], 1, MOST, f);
+    fclose(f);
+}
+
+int main(int argc, char **argv) {
+    if (argc != 4) {
+        fprintf(stderr, "usage: against OLDER MAP ROUNDS\n");
         return 2;
     }
-    len = fread(map[0], 1, MOST, f);
-    fclose(f);
-    memcpy(map[1], map[0], len);
-    int rounds = atoi(argv[2]);
+    take_map(0, argv[2]);
+    take_map(1, argv[2]);
+    int rounds = atoi(argv[3]);
+    if (load(0, NULL) != 0)
+        take_map(0, argv[1]);
     if (load(0, NULL) != 0 && load(1, NULL) == 0)
         return 0;
+    while (field(map[1] + FIRST + drives, 2) == 1)
+        drives += LINE;
     measure("load", load, 50 * rounds, NULL);
     measure("fill", fill, rounds, NULL);
     /* the first drive of group 0 fails and comes back, then loses half of its weight and has it again */
     uint32_t drive = table[0][0], weight = 0;
-    for (const uint8_t *line = map[0] + FIRST; field(line, 2) == 1; line += LINE)
+    for (const uint8_t *line = map[0] + FIRST; line < map[0] + FIRST + drives; line += LINE)
         if (field(line + 2, 4) == drive)
             weight = field(line + 6, 8);
     char frames[4][FRAME + 1];

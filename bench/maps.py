@@ -2,42 +2,52 @@
 import pathlib
 
 TAKE, INDEPENDENT, EMIT, THROUGH = 1, 3, 4, 5
+STRAW, TREE = 1, 2
 FULL = 65536
 BASE = 65536  # a bucket's item number is this and its own number
 
 
 def text_of(groups, devices, buckets, links, steps):
-    """The frames of a map. devices: (number, weight, acceptance); buckets: (number, type); links: (bucket, child); steps: (step, count, type,
-    bucket)."""
+    """The frames of a map. devices: (number, weight, acceptance); buckets: (number, type, kind); links: (bucket, child); steps: (step, count,
+    type, bucket)."""
     lines = [f"00{groups:08x}"]
     lines += [f"01{n:04x}{weight:08x}{acceptance:08x}" for n, weight, acceptance in devices]
-    lines += [f"02{n:04x}{kind:02x}" for n, kind in buckets]
+    lines += [f"02{n:04x}{type_:02x}{kind:02x}" for n, type_, kind in buckets]
     lines += [f"03{bucket:04x}{child:08x}" for bucket, child in sorted(links)]
-    lines += [f"04{step:02x}{count:02x}{kind:02x}{bucket:04x}" for step, count, kind, bucket in steps]
+    lines += [f"04{step:02x}{count:02x}{type_:02x}{bucket:04x}" for step, count, type_, bucket in steps]
     lines.append(f"05{len(lines):04x}")
     return "".join(line + "\n" for line in lines)
 
 
-def tree(groups, counts, weight=lambda n: 4096, acceptance=lambda n: FULL, copies=3, through=False):
+def nested(groups, counts, weight=lambda n: 4096, acceptance=lambda n: FULL, copies=3, through=False, kind=STRAW):
     """Buckets in buckets, so many in each by level, at the last level drives; the copies lie in different buckets below the root, or with
-    through in different buckets of drives."""
+    through in different buckets of drives. The buckets of drives are of the kind, all others straws."""
     devices, buckets, links = [], [], []
 
     def bucket(level):
         number = len(buckets)
-        buckets.append((number, len(counts) - level))
+        last = level + 1 == len(counts)
+        buckets.append((number, len(counts) - level, kind if last else STRAW))
         for _ in range(counts[level]):
-            if level + 1 < len(counts):
-                links.append((number, BASE + bucket(level + 1)))
-            else:
+            if last:
                 n = len(devices)
                 devices.append((n, weight(n), acceptance(n)))
                 links.append((number, n))
+            else:
+                links.append((number, BASE + bucket(level + 1)))
         return number
 
     bucket(0)
     selects = [(THROUGH, copies, 1, 0)] if through else [(INDEPENDENT, copies, len(counts) - 1, 0), (INDEPENDENT, 1, 0, 0)]
     return text_of(groups, devices, buckets, links, [(TAKE, 0, 0, 0), *selects, (EMIT, 0, 0, 0)])
+
+
+def shelves(groups, count, kind, drives=64):
+    """So many buckets of drives, each taken for one drive: of a group as many draws, all of them in such buckets."""
+    devices = [(n, mixed(n), FULL) for n in range(drives * count)]
+    links = [(n // drives, n) for n, _, _ in devices]
+    steps = [step for b in range(count) for step in ((TAKE, 0, 0, b), (INDEPENDENT, 1, 0, 0), (EMIT, 0, 0, 0))]
+    return text_of(groups, devices, [(b, 1, kind) for b in range(count)], links, steps)
 
 
 def mixed(n):
@@ -59,18 +69,24 @@ ARCHIVE = pathlib.Path(__file__).resolve().parent.parent / "examples" / "archive
 
 # the maps of the table: 1,024 drives each, and the example archive of 224
 COMPARED = [
-    ("equal", "4 x 16 x 16, equal weights", lambda: tree(1024, (4, 16, 16))),
-    ("mixed", "4 x 16 x 16, mixed weights", lambda: tree(1024, (4, 16, 16), weight=mixed)),
-    ("wide", "16 x 64, buckets of 64", lambda: tree(1024, (16, 64))),
-    ("half", "4 x 16 x 16, half at acceptance 0", lambda: tree(1024, (4, 16, 16), acceptance=half)),
-    ("through", "4 x 16 x 16, through 3 cabinets", lambda: tree(1024, (4, 16, 16), through=True)),
-    ("dead", "the same, 4 of the 64 cabinets dead", lambda: tree(1024, (4, 16, 16), acceptance=dead, through=True)),
+    ("equal", "4 x 16 x 16, equal weights", lambda: nested(1024, (4, 16, 16))),
+    ("mixed", "4 x 16 x 16, mixed weights", lambda: nested(1024, (4, 16, 16), weight=mixed)),
+    ("wide", "16 x 64, buckets of 64", lambda: nested(1024, (16, 64))),
+    ("trees", "the same, the buckets of 64 as trees", lambda: nested(1024, (16, 64), kind=TREE)),
+    ("half", "4 x 16 x 16, half at acceptance 0", lambda: nested(1024, (4, 16, 16), acceptance=half)),
+    ("through", "4 x 16 x 16, through 3 cabinets", lambda: nested(1024, (4, 16, 16), through=True)),
+    ("dead", "the same, 4 of the 64 cabinets dead", lambda: nested(1024, (4, 16, 16), acceptance=dead, through=True)),
     ("archive", "examples/archive.map", ARCHIVE.read_text),
 ]
 
+# one draw among 64 children: the number of draws that a fill makes, and a map for each kind of bucket. A tree of one child makes no hash, so
+# that its fill is what all but the draws takes
+DRAWS = 4096 * 5
+DRAWN = [("straw", lambda: shelves(4096, 5, STRAW)), ("tree", lambda: shelves(4096, 5, TREE)), ("alone", lambda: shelves(4096, 5, TREE, 1))]
+
 # how fill's time grows: (what grows, [(its number, map)])
 GROWTH = [
-    ("groups", "4 x 16 x 16 drives", [(g, lambda g=g: tree(g, (4, 16, 16))) for g in (256, 512, 1024, 2048, 4096)]),
-    ("drives", "4 sites, 16 drives a cabinet, 1,024 groups", [(64 * k, lambda k=k: tree(1024, (4, k, 16))) for k in (1, 2, 4, 8, 16)]),
-    ("children of a bucket", "4 x 4 cabinets, 1,024 groups", [(c, lambda c=c: tree(1024, (4, 4, c))) for c in (4, 8, 16, 32, 64)]),
+    ("groups", "4 x 16 x 16 drives", [(g, lambda g=g: nested(g, (4, 16, 16))) for g in (256, 512, 1024, 2048, 4096)]),
+    ("drives", "4 sites, 16 drives a cabinet, 1,024 groups", [(64 * k, lambda k=k: nested(1024, (4, k, 16))) for k in (1, 2, 4, 8, 16)]),
+    ("children of a bucket", "4 x 4 cabinets, 1,024 groups", [(c, lambda c=c: nested(1024, (4, 4, c))) for c in (4, 8, 16, 32, 64)]),
 ]

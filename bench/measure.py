@@ -11,6 +11,7 @@ import sys
 import maps
 
 BUDGET = 2.5  # an edit that moves few places, in fills
+TURNS = 5  # how often the draws of each kind are measured, by turns
 
 
 def run(folder, words, name, text, rounds):
@@ -61,6 +62,15 @@ def main():
     for rows in (times, fills):
         print_table(rows)
         print()
+    turns = [[run(folder, ["bench", "fill"], name, text(), rounds)["fill"] for name, text in maps.DRAWN] for _ in range(TURNS)]
+    straw, tree, rest = [[min(took) / maps.DRAWS for took in zip(*pairs)] for pairs in zip(*turns)]
+    drawn = [["a draw among 64 children", "engine", "plain C", "ratio"]]
+    draws = [[took - other for took, other in zip(pair, rest)] for pair in (straw, tree)]
+    drawn += [[name, time_of(pair[0]), time_of(pair[1]), ratio(pair)] for name, pair in zip(("straw", "tree"), draws)]
+    drawn.append(["straw / tree"] + [f"{long / short:.2f}" for long, short in zip(*draws)] + [""])
+    drawn.append(["the rest of a place", time_of(rest[0]), time_of(rest[1]), ratio(rest)])
+    print_table(drawn)
+    print()
     growth = []
     for name, title, points in maps.GROWTH:
         rows = [[f"fill by {name}: {title}", "engine", "plain C", "ratio"]]

@@ -1,4 +1,4 @@
-/* Document 01, with changes 1 to 3 of document 02, in plain C, sentence by sentence: what the engine is measured against. */
+/* Document 01, with changes 1 to 4 of document 02, in plain C, sentence by sentence: what the engine is measured against. */
 #include "plain.h"
 
 #include <stdlib.h>
@@ -6,14 +6,16 @@
 
 enum { DEVICES = 1024, BUCKETS = 256, BASE = 65536, CHILDREN = 64, STEPS = 16, PLACES = 32, HOLE = 0xffff, TRIES = 50, MOVE = 23 };
 enum { TAKE = 1, FIRST_N = 2, INDEPENDENT = 3, EMIT = 4, THROUGH = 5 };
+enum { STRAW = 1, TREE = 2 };
 
 struct step {
     uint32_t step, count, type, bucket;
 };
 
 struct bucket {
-    uint32_t type, weight, count;
+    uint32_t type, kind, weight, count;
     uint32_t items[CHILDREN], weights[CHILDREN];
+    uint32_t root, nodes[2 * CHILDREN]; /* of a tree: the root's label, and the weight of each node by its label */
 };
 
 struct map {
@@ -48,7 +50,7 @@ static void put_field(uint8_t *at, size_t digits, uint32_t n) {
 }
 
 /* Digits of a frame, by its kind. */
-static const size_t LENGTH[6] = {10, 22, 8, 14, 12, 6};
+static const size_t LENGTH[6] = {10, 22, 10, 14, 12, 6};
 
 static uint32_t kind_of(const uint8_t *line) { return field(line, 2); }
 
@@ -134,7 +136,7 @@ static int ranged(const uint8_t *text, size_t len) {
                 return 0;
             break;
         case 2:
-            if (field(f + 2, 4) >= BUCKETS || field(f + 6, 2) < 1)
+            if (field(f + 2, 4) >= BUCKETS || field(f + 6, 2) < 1 || field(f + 8, 2) < STRAW || field(f + 8, 2) > TREE)
                 return 0;
             break;
         case 3:
@@ -274,6 +276,18 @@ static uint32_t width_of(const struct map *m) {
     return width > PLACES ? 0 : (uint32_t)width;
 }
 
+/* "Missing leaves weigh 0, a node as much as its leaves." */
+static void weigh_nodes(struct bucket *b) {
+    b->root = 1;
+    while (b->root < b->count)
+        b->root *= 2;
+    for (uint32_t i = 0; i < b->root; i++)
+        b->nodes[2 * i + 1] = i < b->count ? b->weights[i] : 0;
+    for (uint32_t side = 1; side < b->root; side *= 2)
+        for (uint32_t label = 2 * side; label < 2 * b->root; label += 4 * side)
+            b->nodes[label] = b->nodes[label - side] + b->nodes[label + side];
+}
+
 /* "A bucket's weight is the sum of its children's weights, nested buckets included." */
 static uint32_t weigh(struct map *m, uint32_t item) {
     if (item < BASE)
@@ -286,6 +300,8 @@ static uint32_t weigh(struct map *m, uint32_t item) {
         b->weights[i] = weigh(m, b->items[i]);
         b->weight += b->weights[i];
     }
+    if (b->kind == TREE)
+        weigh_nodes(b);
     m->weighed[item - BASE] = 1;
     return b->weight;
 }
@@ -332,6 +348,7 @@ static uint32_t read_map(struct map *m, const uint8_t *text, size_t len) {
         case 2:
             m->present[n] = 1;
             m->buckets[n].type = field(f + 6, 2);
+            m->buckets[n].kind = field(f + 8, 2);
             m->buckets[n].count = 0;
             break;
         case 4:
@@ -402,7 +419,18 @@ static uint32_t hash3(uint32_t p, uint32_t q, uint32_t s) {
     return h;
 }
 
-/* ---- the straw draw */
+static uint32_t hash4(uint32_t p, uint32_t q, uint32_t s, uint32_t z) {
+    uint32_t h = SEED ^ p ^ q ^ s ^ z, v = 231232, w = 1232;
+    MIX(p, q, h);
+    MIX(s, z, h);
+    MIX(p, v, h);
+    MIX(w, q, h);
+    MIX(s, v, h);
+    MIX(w, z, h);
+    return h;
+}
+
+/* ---- the draws */
 
 static uint64_t log_of(uint64_t u) {
     uint64_t e = 63 - (uint64_t)__builtin_clzll(u);
@@ -425,8 +453,7 @@ static uint64_t log_of(uint64_t u) {
     return (e << 20) + digits;
 }
 
-/* The winner's item number, or -1 for none. */
-static int64_t draw(const struct bucket *b, uint32_t x, uint32_t r) {
+static int64_t draw_straw(const struct bucket *b, uint32_t x, uint32_t r) {
     int64_t winner = -1;
     uint64_t least = 0;
     for (uint32_t i = 0; i < b->count; i++) {
@@ -442,6 +469,25 @@ static int64_t draw(const struct bucket *b, uint32_t x, uint32_t r) {
         }
     }
     return winner;
+}
+
+/* "The walk turns left when floor(t x node weight / 2^32) is less than the left weight, otherwise right." */
+static int64_t draw_tree(const struct bucket *b, uint32_t item, uint32_t x, uint32_t r) {
+    if (b->weight == 0)
+        return -1;
+    uint32_t label = b->root;
+    for (uint32_t side = b->root / 2; side > 0; side /= 2) {
+        uint64_t t = hash4(x, label, r, item);
+        uint32_t left = label - side, right = label + side;
+        label = t * b->nodes[label] >> 32 < b->nodes[left] ? left : right;
+    }
+    return b->items[label / 2];
+}
+
+/* In the bucket with this item number: the winner's item number, or -1 for none. */
+static int64_t draw(const struct map *m, uint32_t item, uint32_t x, uint32_t r) {
+    const struct bucket *b = &m->buckets[item - BASE];
+    return b->kind == TREE ? draw_tree(b, item, x, r) : draw_straw(b, x, r);
 }
 
 /* ---- walk, select and rule */
@@ -464,7 +510,7 @@ static uint32_t find_beneath(const struct map *m, uint32_t x, uint32_t count, ui
     for (uint32_t failures = 0; failures < TRIES; failures++) {
         int64_t at = item;
         while (at >= BASE)
-            at = draw(&m->buckets[at - BASE], x, r + failures * count);
+            at = draw(m, (uint32_t)at, x, r + failures * count);
         *tries += 1;
         if (at >= 0 && accepts(m, x, (uint32_t)at))
             return (uint32_t)at;
@@ -496,10 +542,10 @@ static uint32_t select_items(const struct map *m, uint32_t x, const struct step 
             for (;;) {
                 uint32_t attempt = s->step == FIRST_N ? r + f : r + fr * s->count;
                 int held = 0;
-                int64_t item = draw(&m->buckets[at - BASE], x, attempt);
+                int64_t item = draw(m, at, x, attempt);
                 while (item >= 0 && type_of(m, (uint32_t)item) > s->type) {
                     at = (uint32_t)item;
-                    item = draw(&m->buckets[at - BASE], x, attempt);
+                    item = draw(m, at, x, attempt);
                 }
                 if (item >= 0 && type_of(m, (uint32_t)item) == s->type) {
                     held = holds(items, n, (uint32_t)item);

@@ -18,7 +18,7 @@ from unittest import mock
 
 ap = argparse.ArgumentParser()
 ap.add_argument('--oracle', required=True)
-ap.add_argument('--level', type=int, default=3)
+ap.add_argument('--level', type=int, default=4)
 ap.add_argument('--days', action='store_true')
 ap.add_argument('--hashes', action='store_true')
 ARGS = ap.parse_args()
@@ -26,6 +26,8 @@ sys.path.insert(0, ARGS.oracle)
 import crush  # noqa: E402
 import fill   # noqa: E402
 import gen    # noqa: E402
+
+gen.Doc.level = ARGS.level
 
 
 def maps(seeds, most):
@@ -48,15 +50,26 @@ def place(data, group, size):
 
 def extremes():
     """The highest and the lowest hash of a drive's test, each met by the acceptances next to it and by those that need no hash."""
-    gen.Doc.level = ARGS.level
     for low in (65535, 0):
         drive, group = next((d, x) for d in range(1024) for x in range(65536) if crush.hash2(x, d, crush.S) % 65536 == low)
         for acceptance in (65536, 65535, 1, 0):
             place(gen.flat(65536, [(drive, 1, acceptance)], gen.block(0, (crush.INDEP, 1, 0))).bytes(), group, 2)
 
 
+def trees():
+    """Trees of as many children as a height has at most, and of one less and one more; some of the children, or all, weigh 0."""
+    rng = random.Random(4)
+    for children in sorted({2 ** height + more for height in range(7) for more in (-1, 0, 1)} - {0, 65}):
+        for weights in ((7,), (0, 0, 1, 300, 65535), (0,)):
+            drives = [(n, rng.choice(weights), 65536) for n in rng.sample(range(1024), children)]
+            doc = gen.flat(8, drives, gen.block(255, (crush.INDEP, 2, 0)), b=255)
+            doc.kinds[255] = crush.TREE
+            place(doc.bytes(), rng.randrange(8), 4)
+
+
 def places():
     extremes()
+    trees()
     for i, data, mp in maps(50, 6000):
         if isinstance(mp, int):
             place(data, 0, 64)
@@ -112,7 +125,7 @@ def hashes_of(rng, data):
 
 def hashes():
     rng = random.Random(3)
-    for _, data, mp in maps(50, 1500):
+    for _, data, mp in maps(60, 1500):
         if not isinstance(mp, int) and mp.G * mp.W <= 60:
             hashes_of(rng, accepting(rng, data, (65536, 65536, 0)))
             hashes_of(rng, accepting(rng, data, (65536, 65536, 65536, 0, 1, 32768, 65535)))

@@ -17,14 +17,14 @@ static void line(const char *format, unsigned a, unsigned b, unsigned c) {
     lines++;
 }
 
-/* One drive in the innermost bucket, of type 1; bucket b is of type b + 1. The select is of this step and type. */
+/* One drive in the innermost bucket, of type 1; bucket b is of type b + 1, every other a tree. The select is of this step and type. */
 static void write_map(unsigned step, unsigned type) {
     len = 0;
     lines = 0;
     line("00%08x\n", 1, 0, 0);
     line("01%04x%08x%08x\n", 0, 1, 65536);
     for (unsigned b = 0; b < LEVELS; b++)
-        line("02%04x%02x\n", b, b + 1, 0);
+        line("02%04x%02x%02x\n", b, b + 1, 1 + b % 2);
     for (unsigned b = 0; b < LEVELS; b++)
         line("03%04x%08x\n", b, b == 0 ? 0 : BASE + b - 1, 0);
     line("04010000%04x\n", LEVELS - 1, 0, 0);

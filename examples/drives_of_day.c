@@ -42,7 +42,7 @@ static const char *meaning(uint32_t number) {
     case 10:
         return "a bucket has more than 64 children";
     case 11:
-        return "the rule is not 1 to 16 steps in blocks of take, selects and emit, with types that fall to 0";
+        return "the rule is not 1 to 16 steps in blocks of take, selects and emit, with types that fall to 0 or end at a step 5";
     case 12:
         return "the list is too wide: more than 16 places in a block or 32 in all";
     case 13:
@@ -51,6 +51,10 @@ static const char *meaning(uint32_t number) {
         return "the map has no such group";
     case 16:
         return "the space is too small for the list";
+    case 21:
+        return "a step 5 has type 0";
+    case 22:
+        return "a bucket has no child";
     default:
         return "no number that crush_place answers";
     }

@@ -2,11 +2,13 @@
 """Writes the map of an example archive: three sites, their cabinets, and drives of four sizes. archive.map is what it prints.
 
 A drive's number is its site, cabinet and slot, one hexadecimal digit each: 01a3 is slot 3 of cabinet a at site 1. Its weight is its size in
-gigabytes. Each day has three copies, one at each site."""
+gigabytes. Each day has three copies, one at each site. A wide cabinet is a tree bucket, all others are straw buckets."""
 import sys
 
 GROUPS = 1024
 ROOT, SITE, CABINET = 3, 2, 1  # types; a drive has type 0
+STRAW, TREE = 1, 2  # kinds of buckets
+WIDE = 16  # a cabinet of so many drives is wide
 BASE = 65536  # a bucket's item number is this and its own number
 FULL = 65536  # the acceptance of a drive that takes all that is drawn for it
 
@@ -27,14 +29,14 @@ def acceptance(drive):
 
 
 def main():
-    devices, buckets, links = [], [(0, ROOT)], []
+    devices, buckets, links = [], [(0, ROOT, STRAW)], []
     for s, cabinets in enumerate(SITES):
         site = 1 + s
-        buckets.append((site, SITE))
+        buckets.append((site, SITE, STRAW))
         links.append((0, BASE + site))
         for c, (count, size) in enumerate(cabinets):
             cabinet = 16 * site + c
-            buckets.append((cabinet, CABINET))
+            buckets.append((cabinet, CABINET, TREE if count >= WIDE else STRAW))
             links.append((site, BASE + cabinet))
             for slot in range(count):
                 drive = 256 * s + 16 * c + slot
@@ -42,7 +44,7 @@ def main():
                 links.append((cabinet, drive))
     lines = [f"00{GROUPS:08x}"]
     lines += [f"01{number:04x}{weight:08x}{share:08x}" for number, weight, share in sorted(devices)]
-    lines += [f"02{number:04x}{kind:02x}" for number, kind in sorted(buckets)]
+    lines += [f"02{number:04x}{type_:02x}{kind:02x}" for number, type_, kind in sorted(buckets)]
     lines += [f"03{bucket:04x}{child:08x}" for bucket, child in sorted(links)]
     # take the root; three sites; in each a drive of any cabinet; emit
     lines += ["040100000000", f"040303{SITE:02x}0000", "040301000000", "040400000000"]

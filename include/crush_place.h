@@ -38,10 +38,10 @@ struct crush_placing {
  * The questions are put in this order, each to the whole map before the next. A refusal answers the number of the first one answered no:
  *
  *    1  Has the map 1 to 65,536 bytes, the last a newline, all others lower-case hexadecimal digits or newlines?
- *    2  Is each line of kind 00 to 05, at that kind's length?
+ *    2  Is each line of kind 00 to 05, at that kind's length? (An 02 has 10 digits, the last two the bucket's kind.)
  *    3  Is there one 00 first, then the 01s, 02s, 03s and 04s, and one 05 last?
  *    4  Does the 05 tell the number of lines before it?
- *    5  Is each field in its range, and 0 where unused?
+ *    5  Is each field in its range, and 0 where unused? (A bucket's kind is 01, straw, or 02, tree.)
  *    6  Do the devices, the buckets and the (bucket, child) pairs strictly rise?
  *    7  Is every bucket and child of an 03, and every bucket taken, present?
  *    8  Is no item a child twice?

@@ -28,7 +28,7 @@ def name_of(line):
 def main():
     parser = argparse.ArgumentParser(description=__doc__)
     parser.add_argument("--oracle", type=pathlib.Path, required=True)
-    parser.add_argument("--level", type=int, default=3)
+    parser.add_argument("--level", type=int, default=4)
     parser.add_argument("--maps", type=int, default=100)
     parser.add_argument("--first", type=int, default=0)
     parser.add_argument("--kinds", nargs="+", choices=KINDS, default=KINDS)
@@ -38,7 +38,7 @@ def main():
     import fill as reference
 
     answers = collections.Counter()
-    inputs = edited = through = wrong = 0
+    inputs = edited = through = trees = wrong = 0
     for kind in options.kinds:
         for seed in range(options.first, options.first + options.maps):
             given = output_of([sys.executable, options.oracle / "gen.py", str(seed), kind, "--level", str(options.level)])
@@ -46,13 +46,15 @@ def main():
             got = output_of([options.program], given)
             inputs += 1
             through += any(line.startswith(b"0405") for line in given.splitlines())
+            trees += any(line.startswith(b"02") and line[8:] == b"02" for line in given.splitlines())
             if got != want:
                 wrong += 1
                 print(f"{kind} {seed}: {got[:60]!r} for {want[:60]!r}")
             if want.startswith(b"11") and reference.split_input(given)[1]:
                 edited += 1
             answers.update(name_of(line) for line in want.splitlines())
-    print(f"{inputs} inputs, {through} of them with a step 5, {edited} filled and edited, {wrong} wrong; wanted {dict(sorted(answers.items()))}")
+    print(f"{inputs} inputs, {through} of them with a step 5, {trees} with a tree, {edited} filled and edited, {wrong} wrong; "
+          f"wanted {dict(sorted(answers.items()))}")
     return 1 if wrong else 0
 
 

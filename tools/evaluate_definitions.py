@@ -2,7 +2,8 @@
 """Evaluates the definitions (crates/definitions) against a CRUSH in Python by another hand.
 
 usage: evaluate_definitions.py --oracle DIR [--level L] [--seed N] [--maps N] [--edits N] [--damaged N] [--walks N]
-                [--leaves N] [--ties N] [--through N] [--keys N] [--per N]
+                [--leaves N] [--ties N] [--through N] [--trees N] [--keys N]
+                [--per N]
                 [--crate DIR] [--keep] [--wrong] [--verbose] [--giving-up]
 
 DIR holds the reference: crush.py, fill.py and gen.py.
@@ -12,7 +13,8 @@ the reference compute what should come out, writes each as an antt theorem
 `DEFINITION ARGUMENTS ≡ EXPECTED` proved by `refl`, and has `rt check` judge
 them, in a scratch repository outside this one.  Prints how many held.
 
-  --leaves   hashes of two and of three, logarithms and keys, of random numbers
+  --leaves   hashes of two, three and four, logarithms and keys, of random
+             numbers
   --maps     valid maps: load, write, day, placing of every group (places and
              tries), the daemon's bytes
   --edits    maps with a list of edits: number, count of moves, map, table and
@@ -23,12 +25,16 @@ them, in a scratch repository outside this one.  Prints how many held.
   --through  maps with a step 5, every other of them with an inner walk that
              finds none: load, placing and walk of a group, an edit, the fill;
              with each three rules with a step 5, good or bad: load's number
+  --trees    draws in trees of 1 to 64 children, some or all of weight 0, with
+             the height, the labels and the weights of the nodes on the way; for
+             every fifth a map with trees: load, placing and walk of a group, an
+             edit, the fill; and load's number for each kind of bucket
   --giving-up  besides, two placings: one live drive in one cabinet, 2 tries;
              one dead drive, 2,550 tries, in fifty equations of a turn each
   --level    the last change of document 02 that counts
-  --keys     most straw keys (and tests of acceptance, at 0.6) one theorem may
-             need: a theorem may take 50 million steps, and a key takes some
-             65,000
+  --keys     most straw keys (and tests of acceptance, at 0.6, and turns in a
+             tree, at 1.5) one theorem may need: a theorem may take 50 million
+             steps, and a key takes some 65,000
   --per      theorems a crate
   --wrong    changes every expected value: each theorem must be refused
 """
@@ -49,7 +55,7 @@ CRATE = os.path.join(HERE, '..', 'crates', 'definitions')
 ap = argparse.ArgumentParser()
 for name, value in (('seed', 1), ('maps', 4), ('edits', 2), ('damaged', 6),
                     ('walks', 1), ('leaves', 5), ('ties', 0), ('through', 4),
-                    ('keys', 500), ('per', 60), ('level', 3)):
+                    ('trees', 10), ('keys', 500), ('per', 60), ('level', 4)):
     ap.add_argument('--' + name, type=int, default=value)
 ap.add_argument('--oracle', required=True)
 ap.add_argument('--crate', default=CRATE)
@@ -91,8 +97,9 @@ use %(of)sdeclared.Verdict.{Verdict}
 use %(of)sdeclared.Verdict.the-variants.{Held, Rejected, Passed}
 use %(of)sdeclared.Event.{Event}
 use %(of)sdeclared.Event.the-variants.{Drew, Tested}
-use %(of)sHash.{hash2, hash3}
+use %(of)sHash.{hash2, hash3, hash4}
 use %(of)sStraw.{L, key}
+use %(of)sTree.{labelOf, heightOf, nodeWeight, treeOf}
 use %(of)sMap.{mapOf}
 use %(of)sSelect.{Place}
 use %(of)sRule.{placedOf}
@@ -149,19 +156,24 @@ def numbers(ns):
 
 class Theorems:
     def __init__(self):
-        self.items = []                      # (name, kind, keys, text, map)
+        self.items = []                      # (name, kind, keys, text, what is
+        #                                      in it: STEP_5, NONE, TREE)
 
     def add(self, kind, what, left, right, keys=0, mp=None, dead=0):
-        """mp is the map that the equation is of, dead how many inner walks
-        find none in it."""
+        """mp is the map, or the tree, that the equation is of, dead how many
+        inner walks find none in it."""
         name = 't%d' % len(self.items)
         if ARGS.wrong:
             right = spoil(right)
-        of_map = 'other' if mp is None or not goes_through(mp) else \
-            'step 5, none found' if dead else 'step 5'
+        has = {STEP_5: mp is not None and goes_through(mp), NONE: dead > 0,
+               TREE: mp is not None and crush.TREE in mp.kinds.values()}
         self.items.append((name, kind, keys,
                            '-- %s: %s\n%s : %s ≡ %s' % (kind, what, name, left,
-                                                       right), of_map))
+                                                       right),
+                           [part for part in has if has[part]]))
+
+
+STEP_5, NONE, TREE = 'a step 5', 'an inner walk that finds none', 'a tree'
 
 
 def goes_through(mp):
@@ -171,8 +183,8 @@ def goes_through(mp):
 def spoil(right):
     """The expected value with its last number changed."""
     m = list(re.finditer(r'(?<![\w.])(0x[0-9a-f]+|\d+)(?![\w])', right))[-1]
-    value = int(m.group(1), 0) + 1
-    return right[:m.start()] + str(value) + right[m.end():]
+    value = hex(int(m.group(1), 0) + 1)
+    return right[:m.start()] + value + right[m.end():]
 
 
 # --------------------------------------------------------------- inputs
@@ -216,11 +228,16 @@ crush.inner_draw = crush.draw          # the definitions remember no draw
 def keys_of(run):
     """The value of run(), what its evaluation costs, in straw keys, and how
     many inner walks in it find none."""
-    crush.cost.cache_clear()
+    counted = (crush.cost, 1), (crush.hash4, 1.5)
+    for hashed, _ in counted:
+        hashed.cache_clear()
     ACCEPTS[0] = DEAD[0] = 0
     value = run()
-    info = crush.cost.cache_info()
-    return value, info.hits + info.misses + ACCEPTS[0] * 6 // 10, DEAD[0]
+    keys = ACCEPTS[0] * 0.6
+    for hashed, each in counted:
+        info = hashed.cache_info()
+        keys += (info.hits + info.misses) * each
+    return value, int(keys), DEAD[0]
 
 
 def runs_cost(*maps):
@@ -243,12 +260,15 @@ def leaves(ths, count):
     rng = random.Random('leaves:%d' % ARGS.seed)
     word = lambda: rng.choice([rng.randrange(2 ** 32), rng.randrange(70000)])
     for i in range(count):
-        p, q, s = word(), word(), word()
+        p, q, s, z = word(), word(), word(), word()
         ths.add('leaf', 'hash of two', 'hash2 %d %d %d' % (crush.S, p, q),
                 str(crush.hash2(p, q)))
         ths.add('leaf', 'hash of three',
                 'hash3 %d %d %d %d' % (crush.S, p, q, s),
                 str(crush.hash3(p, q, s)))
+        ths.add('leaf', 'hash of four',
+                'hash4 %d %d %d %d %d' % (crush.S, p, q, s, z),
+                str(crush.hash4(p, q, s, z)))
         u = rng.choice([word() + 1, 2 ** rng.randrange(33),
                         2 ** rng.randrange(1, 33) - 1])
         ths.add('leaf', 'logarithm', 'L %d' % u, str(crush.L(u)))
@@ -525,6 +545,18 @@ def walk_maps(ths, count):
         print('walks: %d maps, events compared: %d' % (count, events))
 
 
+def map_theorems(ths, what, mp, table, line, keys, dead):
+    """Group 0 of a map, an edit, which all groups of both maps need so many
+    keys for, and the fill after it; how many events the walks have."""
+    run, k, none = keys_of(lambda: crush.Run(mp, 0))
+    ths.add('load', what, 'loadOf %s' % text(crush.map_bytes(mp)), '0', 0, mp)
+    place_theorem(ths, 'place', what, mp, 0, run.places, run.tries, k, none)
+    events = walk_theorem(ths, what, mp, 0, run, k, none)
+    res = edit_theorem(ths, what, mp, table, line, 230, keys, dead)
+    fill_theorem(ths, what, res.map)
+    return events
+
+
 # ------------------------------------------------------- select through
 
 def through_doc(rng, dead):
@@ -559,7 +591,7 @@ def through_maps(ths, count):
         want_dead = done % 2 == 1
         d = through_doc(rng, want_dead)
         mp = good_edits(rng, d, 1)
-        run, k, dead = keys_of(lambda: crush.Run(mp, 0))
+        dead = keys_of(lambda: crush.Run(mp, 0))[2]
         line = d.edits[0]
         both, dead_both = runs_cost(mp, edited(mp, line))
         table = crush.fresh_fill(mp)
@@ -573,12 +605,7 @@ def through_maps(ths, count):
             continue
         done += 1
         what = 'seed %d' % seed
-        ths.add('load', what, 'loadOf %s' % text(crush.map_bytes(mp)), '0', 0,
-                mp)
-        place_theorem(ths, 'place', what, mp, 0, run.places, run.tries, k, dead)
-        events += walk_theorem(ths, what, mp, 0, run, k, dead)
-        edit_theorem(ths, what, mp, table, line, 230, both, dead_both)
-        fill_theorem(ths, what, res.map)
+        events += map_theorems(ths, what, mp, table, line, both, dead_both)
         for move in res.moves:
             causes[move[4]] = causes.get(move[4], 0) + 1
             moves += 1
@@ -595,6 +622,125 @@ def through_maps(ths, count):
               % (count, events, moves,
                  ' '.join('%s: %d' % c for c in sorted(causes.items())),
                  ' '.join('%d: %d' % c for c in sorted(numbers_seen.items()))))
+
+
+# ---------------------------------------------------------------- trees
+
+class Tree:
+    """One tree bucket, as the reference's draw reads it of a map: children of
+    any weight."""
+    steps = ()
+
+    def __init__(self, bucket, items, weights):
+        self.children, self.kinds = {bucket: items}, {bucket: crush.TREE}
+        self.weight = dict(zip(items, weights)).get
+        self.seed, self._nodes = crush.S, {}
+
+
+# as many children as a height has at most, one less and one more
+SIZES = sorted({2 ** height + more for height in range(7)
+                for more in (-1, 0, 1)} - {0, 65})
+
+
+def tree_draws(ths, count):
+    rng = random.Random('trees:%d' % ARGS.seed)
+    none = 0
+    for i in range(count):
+        size = SIZES[i % len(SIZES)] if i < 2 * len(SIZES) else \
+            rng.randint(1, 64)
+        bucket = rng.randrange(256)
+        items = sorted(rng.sample([*range(1024), *range(65536, 65792)], size))
+        of = rng.choice([[1], [0, 0, 5], [0, 1, 65535], [1, 1048560],
+                         [0, rng.randrange(1 << 20)], [0]])
+        weights = [rng.choice(of) for _ in items]
+        tree = Tree(bucket, items, weights)
+        x, r = rng.randrange(65536), rng.choice([1, 3, rng.randrange(1, 2551)])
+        what = '%d children' % size
+        won = crush.draw(tree, x, r, bucket)
+        none += won is None
+        ths.add('tree', what, 'drawnCode (treeOf %d %d %d %d %s %s)'
+                % (crush.S, x, r, 65536 + bucket, numbers(weights),
+                   numbers(items)), str(0 if won is None else won + 1), 0, tree)
+        root = crush.root_label(size)
+        ths.add('tree', what, 'heightOf %d' % size,
+                str(root.bit_length() - 1), 0, tree)
+        # a node on the way, or the root of a tree in which none is drawn
+        label = rng.choice(crush.tree_path(tree, x, r, bucket) or [root])
+        height = crush.half_span(label).bit_length() - 1
+        place = crush.node_leaves(label)[0] >> height
+        ths.add('tree', what, 'labelOf %d %d' % (height, place), str(label), 0,
+                tree)
+        ths.add('tree', what, 'nodeWeight %s %d %d'
+                % (numbers(weights), height, place),
+                str(crush.node_weight(tree, bucket, label)), 0, tree)
+    if count:
+        print('trees: %d, %d of them without a child above 0' % (count, none))
+
+
+def kind_maps(ths):
+    """M with each kind of bucket, and in the form without one."""
+    for kind, number in ((0, 5), (1, 0), (2, 0), (3, 5), (255, 5), (None, 2)):
+        d = gen.flat(2, [(0, 1, 65536)], gen.block(0, (3, 2, 0)))
+        d.kinds[0] = kind or 0
+        if kind is None:
+            d.level = crush.TREES - 1
+        mp = loaded(d.bytes())
+        assert number == (mp if isinstance(mp, int) else 0)
+        ths.add('load', 'kind %s' % kind, 'loadOf %s' % text(d.bytes()),
+                str(number), 0, None if number else mp)
+
+
+def tree_doc(rng):
+    """One tree of drives that is taken, or nested buckets, some of them
+    trees."""
+    if rng.random() < 0.5:
+        of = rng.choice([[0, 0, 7], [1, 30], [0, 1, 300]])
+        d = gen.flat(1, [(n, rng.choice(of), 65536) for n in rng.sample(
+            range(1024), rng.choice([1, 2, 3, 5, 9, 17, 33, 64]))],
+            gen.block(7, (3, rng.choice([1, 2, 3]), 0)), b=7)
+        d.kinds[7] = crush.TREE
+        return d
+    d = gen.crowd(rng)
+    d.G = 1
+    d.kinds = {b: rng.choice([crush.STRAW, crush.TREE, crush.TREE])
+               for b, _ in d.bks}
+    d.steps = [[3 if s[0] == 2 else s[0]] + s[1:] for s in d.steps]
+    return d
+
+
+def tree_maps(ths, count):
+    seed, done, events = ARGS.seed * 100000, 0, 0
+    met = {}
+    while done < count:
+        seed += 1
+        rng = random.Random('tree map:%d' % seed)
+        d = tree_doc(rng)
+        mp = loaded(d.bytes())
+        if isinstance(mp, int) or len(d.bytes()) > 3000:
+            continue
+        device = rng.choice(d.devs)[0]
+        line = b'22%04x%08x' % (device, rng.choice([0, 1, 40, 65535]))
+        both, dead = runs_cost(mp, edited(mp, line))
+        crush.STATS.clear()
+        table = crush.fresh_fill(mp)
+        res = crush.edit(mp, table, line, 230, False)
+        # of four maps one has a move by two paths that part where neither ends
+        # at the edited drive, one a move by a draw that finds none in one run,
+        # and the others a move by a draw in a tree
+        want = ('parted tree draw, another wins', 'parted draw, one none',
+                'parted tree draw', 'parted tree draw')
+        if both > ARGS.keys or res.number or \
+                not crush.STATS[want[done % 4]]:
+            continue
+        done += 1
+        for key in want[:3]:
+            met[key] = met.get(key, 0) + crush.STATS[key]
+        events += map_theorems(ths, 'seed %d' % seed, mp, table, line, both,
+                               dead)
+    if count:
+        print('maps with trees: %d, events compared: %d, %s'
+              % (count, events, ', '.join('%s: %d' % c
+                                          for c in sorted(met.items()))))
 
 
 def one_cabinet(acceptance):
@@ -723,13 +869,14 @@ def run(ths, root):
             raise SystemExit('evaluate_definitions.py: rt check failed, with no theorem named')
         if not p.returncode and bad:
             raise SystemExit('evaluate_definitions.py: rt check passed and named a theorem')
-        for n, kind, keys, t, of_map in its:
+        for n, kind, keys, t, has in its:
             total[kind] = total.get(kind, 0) + 1
             if n in bad:
                 failed.append((n, kind, t))
             else:
                 held[kind] = held.get(kind, 0) + 1
-                held_of[of_map] = held_of.get(of_map, 0) + 1
+                for part in has:
+                    held_of[part] = held_of.get(part, 0) + 1
         if ARGS.verbose:
             now = resource.getrusage(resource.RUSAGE_CHILDREN)
             print('%s: %d equations, %d refused, %d keys, %.1f s (CPU %.1f s, '
@@ -764,10 +911,9 @@ def run(ths, root):
     if ARGS.wrong:
         print('wrong values: %d refused, %d taken' % (len(failed), ok))
         return 1 if ok or up else 0
-    print('held: %d of %d; on maps with a step 5: %d, of which with an inner '
-          'walk that finds none: %d'
-          % (ok, len(items), ok - held_of.get('other', 0),
-             held_of.get('step 5, none found', 0)))
+    print('held: %d of %d; %s'
+          % (ok, len(items), ', '.join('with %s: %d' % (part, held_of.get(
+              part, 0)) for part in (STEP_5, NONE, TREE))))
     return 1 if failed or up is False else 0
 
 
@@ -785,6 +931,10 @@ def main():
     walk_maps(ths, ARGS.walks)
     if ARGS.level >= crush.THROUGH_STEP:
         through_maps(ths, ARGS.through)
+    if ARGS.level >= crush.TREES and ARGS.trees:
+        tree_draws(ths, ARGS.trees)
+        kind_maps(ths)
+        tree_maps(ths, (ARGS.trees + 4) // 5)
     if ARGS.giving_up:
         giving_up(root)
     sys.exit(run(ths, root))

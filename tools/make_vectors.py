@@ -4,24 +4,28 @@
 make_vectors.py --oracle DIR [--level L]: DIR holds that CRUSH as crush.py, fill.py and gen.py; L is the last change of document 02 that counts.
 Writes crates/vectors/data/cases and crates/vectors/stdout. A case is a line of five numbers of eight digits, then the bytes of the map, of the edits and of the answer: the numbers are these three lengths,
 the groups and the width (0 and 0 of a refused map). The answer is a refusal; or each row, behind those of the groups below 64 a frame `12`
-with the tries (8), then what each edit prints and the map that is left. What is printed are the answers by kind of case, then of the maps with
-a step 5 how many there are, how many of them are filled and edited, and the moves, by cause, whose cause stands in an inner walk: of a 03 that
-of the place where following it ends."""
+with the tries (8), then what each edit prints and the map that is left. What is printed are the answers by kind of case; of the maps with a
+step 5 and of those with a tree how many there are and how many of them are filled and edited; the moves, by cause, whose cause stands in an inner
+walk, and those whose cause stands at a draw in a tree or in a straw bucket, or at one that finds none in one of the runs: of a 03 that of the place
+where following it ends; and the numbers of children that trees have."""
 import argparse
 import collections
 import itertools
 import pathlib
+import random
 import sys
 
 CRATE = pathlib.Path(__file__).resolve().parent.parent / "crates" / "vectors"
 SEEDS = {"valid": 260, "damaged": 260, "edges": 441, "ambiguous": 16}
+# trees of 1 to 64 children besides, which are few among the edges
+TREES = 40
 TRIED = 64
 # what the program has space for, in bytes
 MAP, EDITS, ANSWER = 65600, 65536, 393216
 # of cases with more bytes one of a kind, or of an edge, is enough
 LARGE = 20000
 
-M = ["0000000002", "0100000000000100010000", "02000001", "03000000000000", "040100000000", "040302000000", "040400000000", "050007"]
+M = ["0000000002", "0100000000000100010000", "0200000101", "03000000000000", "040100000000", "040302000000", "040400000000", "050007"]
 
 
 def text(lines):
@@ -30,7 +34,7 @@ def text(lines):
 
 def samples():
     """Document 01, "Samples"."""
-    two = ["0000000002", "0100000000000100010000", "02000002", "03000000000000", "040100000000", "040304010000"]
+    two = ["0000000002", "0100000000000100010000", "0200000201", "03000000000000", "040100000000", "040304010000"]
     yield text(M + ["21000000000000"])
     yield text(M + ["22000000000000"])
     yield text([M[0], "0100000000000100000000"] + M[2:])
@@ -49,13 +53,13 @@ def orders():
         children = {9: [65536 + good], 22: [], 10: list(range(1, 66))}
         kids = [(b, child) for b, fault in enumerate(faults) for child in children[fault]] + [(good, 0)]
         lines = ["0000000002"] + [f"01{d:04x}0000010000010000" for d in range(66)]
-        lines += [f"02{b:04x}01" for b in range(good + 1)] + [f"03{b:04x}{child:08x}" for b, child in kids]
+        lines += [f"02{b:04x}0101" for b in range(good + 1)] + [f"03{b:04x}{child:08x}" for b, child in kids]
         lines += [f"0401{0:04x}{good:04x}", M[5], M[6]]
         yield text(lines + [f"05{len(lines):04x}"])
 
 
-def answer_of(reference, crush, level, frames, edits):
-    """The answer, the groups and the width."""
+def answer_of(reference, crush, level, frames, edits, seen):
+    """The answer, the groups and the width; of the moves seen, those of a refused edit are left out."""
     mp = crush.load(frames, level)
     if isinstance(mp, int):
         return reference.refusal(mp), 0, 0
@@ -74,8 +78,10 @@ def answer_of(reference, crush, level, frames, edits):
         if crush.edit_form(line) is None:
             out.append(reference.refusal(18))
             continue
+        before = len(seen)
         edited = crush.edit(mp, table, line, reference.MOVES_BYTES, False)
         if edited.number:
+            del seen[before:]
             out.append(reference.refusal(edited.number))
             continue
         mp, table = edited.map, edited.table
@@ -92,9 +98,12 @@ def name_of(line):
     return line.decode() if kind == b"1f" else {b"11": "rows", b"12": "tries"}.get(kind, "frames")
 
 
-def edge_of(gen, seed):
-    """The edge of document 01 that the generator makes of a seed; the two of three seeds between are the changes' own."""
-    return f"edge {seed // 3 % len(gen.EDGES)}" if seed % 3 == 0 else "changes"
+def edge_of(gen, level, seed):
+    """The edge that the generator makes of a seed: one of document 01 of every third, of the two between one of the changes'."""
+    if seed % 3 == 0:
+        return f"edge {seed // 3 % len(gen.EDGES)}"
+    later = [make for change, make in gen.LATER_EDGES if change <= level]
+    return later[(seed // 3 * 2 + seed % 3 - 1) % len(later)].__name__
 
 
 def inputs(gen, level, large):
@@ -105,18 +114,20 @@ def inputs(gen, level, large):
         yield "orders", "orders", given
     for kind, seeds in SEEDS.items():
         for seed in range(seeds):
-            edge = edge_of(gen, seed) if kind == "edges" else kind
+            edge = edge_of(gen, level, seed) if kind == "edges" else kind
             if edge == kind or edge not in large:
                 yield kind, edge, gen.generate(seed, kind, level)
+    for seed in range(TREES):
+        yield "trees", "trees", gen.e_tree(random.Random(f"tree:{seed}"))
 
 
 def watch(crush):
-    """A list that takes, of each move, its cause and whether what it leads to stands in an inner walk."""
-    parting, cause, seen, last, depth = crush.first_parting, crush.cause_of, [], [False], [0]
+    """A list that takes, of each move, its cause, the two draws or tests that it leads to and the map."""
+    parting, cause, seen, last, depth = crush.first_parting, crush.cause_of, [], [()], [0]
 
     def watched_parting(old, new):
         part = parting(old, new)
-        last[0] = part is not None and part[2].inner
+        last[0] = part and part[2:]
         return part
 
     def watched_cause(e, old, new):
@@ -124,7 +135,7 @@ def watch(crush):
         met = cause(e, old, new)
         depth[0] -= 1
         if depth[0] == 0:
-            seen.append((met[0], last[0]))
+            seen.append((met[0], *last[0], e.new_map))
         return met
 
     crush.first_parting, crush.cause_of = watched_parting, watched_cause
@@ -135,10 +146,24 @@ def goes_through(frames):
     return any(line.startswith(b"0405") for line in frames.splitlines())
 
 
+def trees_of(crush, level, frames):
+    """Of each tree of a map that load takes, the number of children."""
+    mp = crush.load(frames, level)
+    return [] if isinstance(mp, int) else [len(mp.children[b]) for b, kind in mp.kinds.items() if kind == crush.TREE]
+
+
+def stands_at(crush, old, new, mp):
+    """What a move's cause stands at: a draw, by the kind of its bucket, or a test."""
+    if not isinstance(old, crush.Draw):
+        return "a test"
+    kind = "a tree" if mp.kinds[old.bucket] == crush.TREE else "a straw bucket"
+    return kind + (", none in one run" if None in (old.winner, new.winner) else "")
+
+
 def main():
     parser = argparse.ArgumentParser(description=__doc__)
     parser.add_argument("--oracle", type=pathlib.Path, required=True)
-    parser.add_argument("--level", type=int, default=3)
+    parser.add_argument("--level", type=int, default=4)
     options = parser.parse_args()
     sys.path.insert(0, str(options.oracle))
     import crush
@@ -146,15 +171,16 @@ def main():
     import gen
 
     cases, answers, large, out = collections.Counter(), collections.defaultdict(collections.Counter), set(), []
-    through, inner = collections.Counter(), collections.Counter()
+    through, inner, trees, draws, children = (collections.Counter() for _ in range(5))
     seen = watch(crush)
+    gen.Doc.level = options.level
     for kind, edge, given in inputs(gen, options.level, large):
         frames, edits = reference.split_input(given)
         rest = given[len(frames):]
         if len(frames) > MAP or len(rest) > EDITS or (len(given) > LARGE and edge in large):
             continue
         seen.clear()
-        answer, groups, w = answer_of(reference, crush, options.level, frames, edits)
+        answer, groups, w = answer_of(reference, crush, options.level, frames, edits, seen)
         if len(given) + len(answer) > LARGE:
             if edge in large:
                 continue
@@ -164,15 +190,20 @@ def main():
         out.append(b"%08x%08x%08x%08x%08x\n" % (len(frames), len(rest), len(answer), groups, w) + frames + rest + answer)
         cases[kind] += 1
         answers[kind].update(name_of(line) for line in answer.splitlines())
-        if goes_through(frames):
-            through.update(["maps"] + ["filled"] * (groups > 0) + ["filled and edited"] * (groups > 0 and len(edits) > 0))
-            through.update(["with moves"] * (len(seen) > 0))
-            inner.update(cause for cause, within in seen if within)
+        counts = trees_of(crush, options.level, frames)
+        of_map = ["maps"] + ["filled"] * (groups > 0) + ["filled and edited"] * (groups > 0 and len(edits) > 0) + ["with moves"] * (len(seen) > 0)
+        through.update(of_map * goes_through(frames))
+        trees.update(of_map * (len(counts) > 0))
+        children.update(counts)
+        inner.update(cause for cause, old, _, _ in seen if old.inner)
+        draws.update((cause, stands_at(crush, *met)) for cause, *met in seen)
     (CRATE / "data" / "cases").write_bytes(b"".join(out))
     (CRATE / "stdout").write_text(f"{len(out)} cases, 0 wrong\n")
     for kind, count in cases.items():
         print(f"{kind}: {count} cases, {dict(sorted(answers[kind].items()))}")
     print(f"step 5: {dict(through)}, moves by an inner walk {dict(sorted(inner.items()))}")
+    print(f"trees: {dict(trees)}, children {dict(sorted(children.items()))}")
+    print(f"moves: {dict(sorted(draws.items()))}")
     print(f"{len(out)} cases, {sum(map(len, out))} bytes")
 
 

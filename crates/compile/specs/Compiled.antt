@@ -2,10 +2,10 @@
 use mathlib.Core.Path.{_≡_, refl, sym, ap, subst, _∙_}
 use mathlib.Core.Bool.{Bool, true, false, cond, _&&_}
 use mathlib.Core.List.{List, [], _∷_, map, List·Memᴰ, List·Memᴰ·head}
-use Prim.Native.Nat.{ℕ, zero, suc, _+_, _<_, _≤_}
+use Prim.Native.Nat.{ℕ, zero, suc, _+_, _-_, _<_, _≤_}
 use native.Mathlib.Omega.{arith}
 use lib.Dec.{leb, eqb}
-use lib.ListN.{length, getD, take, drop, length-take, length-drop}
+use lib.ListN.{length, getD, take, drop, length-take, length-drop, length-map}
 use lib.Seq.{getD-take, getD-drop}
 use borrow.Author.Tests.{leb-true, le-leb}
 use Rattle.definitions.specs.declared.Bucket.{Bucket}
@@ -13,31 +13,36 @@ use Rattle.definitions.specs.declared.Link.{Link}
 use Rattle.definitions.specs.declared.Change.{Change}
 use Rattle.definitions.specs.Lists.{every, lookup}
 use Rattle.definitions.specs.Hash.{S}
-use Rattle.definitions.specs.Map.{Map, isBucket, bucketNumber}
-use Rattle.definitions.specs.View.{childrenOf, bucketType, typeBy, typeOf, acceptanceOf, deviceWeight, weightOf, weightsOf, viewOf}
+use Rattle.definitions.specs.Map.{Map, isBucket, bucketNumber, bucketItem}
+use Rattle.definitions.specs.View.{childrenOf, bucketType, kindFrom, kindNumber, bucketKind, typeBy, typeOf, acceptanceOf, deviceWeight, weightOf, weightsOf, viewOf}
 use Rattle.definitions.specs.Load.{bucketRanged, hasBucket, hasItem, narrow}
 use Rattle.definitions.specs.Edit.{put}
 use Rattle.laws.specs.Lists.{both, every-at, every-head, every-tail, every-mono}
 use Rattle.laws.specs.Counting.{number-at}
 use Rattle.laws.specs.Members.{mem-every, mem-at, map-ext}
-use Rattle.laws.specs.Loadable.{Loadable, ranged-is, bucket-ranged, present-is, put-children, put-bucket-type}
+use Rattle.laws.specs.Loadable.{Loadable, ranged-is, bucket-ranged, present-is, put-children, put-bucket-type, put-kind-number}
+use Rattle.laws.specs.Forest.{kidsOf, kids-bucket, forest, weight-bucket, weight-most}
 use Rattle.text.specs.Records.{noBucket}
-use Rattle.hierarchy.specs.Arrays.{firstsIn, countsIn, typesIn, seedIn, firstIn, countIn, childrenIn, partAt, partOf, childIn, typeIn, acceptancesIn, viewIn, Sound}
+use Rattle.hierarchy.specs.Sums.{weightsBy}
+use Rattle.hierarchy.specs.Arrays.{firstsIn, countsIn, typesIn, kindsIn, kindIn, seedIn, firstIn, countIn, childrenIn, partAt, partOf, childIn, typeIn, acceptancesIn, viewIn, Sound}
 use Rattle.compile.specs.Tables.{Tabled}
 use Rattle.compile.specs.Links.{Arranged}
 use Rattle.compile.specs.Weights.{itemIn}
+use Rattle.compile.specs.Trees.{wordsBy, words-again, partIn, Parts}
 use Rattle.compile.specs.Weighing.{child-of, bucketWeight, item-is}
 
 -- the plan of a map
 pub record Planned (m : Map) (plan : List ℕ) : Type 0 where
   pub arranged : Arranged m (firstsIn plan) (countsIn plan) (childrenIn plan)
   pub typed : Tabled (typesIn plan) 256 (bucketType m)
+  pub kinded : Tabled (kindsIn plan) 256 (kindNumber m)
   pub seeded : seedIn plan ≡ S
 
 -- arrays that are the map's, laid into the plan
-pub planned-of : (m : Map) (plan : List ℕ) {first count items types : List ℕ} → Arranged m first count items → Tabled types 256 (bucketType m)
-    → firstsIn plan ≡ first → countsIn plan ≡ count → typesIn plan ≡ types → childrenIn plan ≡ items → seedIn plan ≡ S → Planned m plan
-planned-of m plan a t f k y i s = record { arranged = rw (f, k, i) a; typed = rw y t; seeded = s }
+pub planned-of : (m : Map) (plan : List ℕ) {first count items types kinds : List ℕ} → Arranged m first count items → Tabled types 256 (bucketType m)
+    → Tabled kinds 256 (kindNumber m) → firstsIn plan ≡ first → countsIn plan ≡ count → typesIn plan ≡ types → kindsIn plan ≡ kinds
+    → childrenIn plan ≡ items → seedIn plan ≡ S → Planned m plan
+planned-of m plan a t u f k y z i s = record { arranged = rw (f, k, i) a; typed = rw y t; kinded = rw z u; seeded = s }
 
 -- a map that load takes, its plan, and the weights of its devices by number: all that the weights of buckets and children come of
 pub record Weighs (m : Map) (plan own : List ℕ) : Type 0 where
@@ -48,11 +53,12 @@ pub record Weighs (m : Map) (plan own : List ℕ) : Type 0 where
 -- ---- what an edit leaves as it is
 
 module _ (m : Map) (c : Change) where
-  -- the children, the types and the seed
+  -- the children, the types, the kinds and the seed
   pub put-planned : {plan : List ℕ} → Planned m plan → Planned (put m c) plan
   put-planned k =
       let a = k .arranged in
       let t = k .typed in
+      let u = k .kinded in
       record {
         arranged =
             record {
@@ -64,6 +70,7 @@ module _ (m : Map) (c : Change) where
               ranged = a .ranged;
             };
         typed = record { size = t .size; at = λ b. t .at b ∙ sym (put-bucket-type m c b) };
+        kinded = record { size = u .size; at = λ b. u .at b ∙ sym (put-kind-number m c b) };
         seeded = k .seeded;
       }
 
@@ -168,8 +175,37 @@ module _ (m : Map) (L : Loadable m) {plan : List ℕ} (K : Planned m plan) where
       rw (drop-map (itemIn own loads) (firstIn plan b) (childrenIn plan), take-map (itemIn own loads) (countIn plan b) (drop (firstIn plan b) (childrenIn plan)), A .children b)
       (map-ext (itemIn own loads) (weightOf m) (childrenOf m b) (λ c q. item-is m L A D T W c (child-of m L b c q .ranged)))
 
-  -- with values in which they and the acceptances of the devices lie
-  module _ (values : List ℕ) (P : Tabled (acceptancesIn values) 1024 (acceptanceOf m)) (w : (b : ℕ) → partOf plan b values ≡ weightsOf m b) where
+  -- the kinds
+  kind-is : (b : ℕ) → kindIn plan b ≡ bucketKind m b
+  unfolding bucketKind
+  kind-is b = ap kindFrom (K .kinded .at b)
+
+  -- the parts of the children's weights, and of the words that are laid over them
+  pub parts-are : (ws : List ℕ) → ((b : ℕ) → partIn plan b ws ≡ weightsOf m b) → Parts plan ws
+  parts-are ws w =
+      record {
+        inside = λ b. omega (arith, A .within b);
+        apart = λ b c i h l p q.
+            let e = forest m L .one (bucketItem b) (bucketItem c) (getD (childrenIn plan) i 0) (kid b i h l) (kid c i p q) in
+            omega (arith, e);
+        fits = λ b. rw (w b, ← weight-bucket m L b) (omega (arith, weight-most m L (bucketItem b)));
+      }
+    where
+      kid : (b i : ℕ) → firstIn plan b ≤ i → i < firstIn plan b + countIn plan b → List·Memᴰ (getD (childrenIn plan) i 0) (kidsOf m (bucketItem b))
+      kid b i h l =
+          let e : firstIn plan b + (i - firstIn plan b) ≡ i = omega arith in
+          rw (kids-bucket m b) (subst (λ (k : ℕ). List·Memᴰ (getD (childrenIn plan) k 0) (childrenOf m b)) e (child-at b (i - firstIn plan b) (omega arith)))
+
+  -- with values in which these words and the acceptances of the devices lie
+  module _ (values : List ℕ) (P : Tabled (acceptancesIn values) 1024 (acceptanceOf m))
+      (w : (b : ℕ) → partOf plan b values ≡ wordsBy (kindIn plan b) (weightsOf m b)) where
+    weights-in : (b : ℕ) → weightsBy (kindIn plan b) (length (partOf plan b plan)) (partOf plan b values) ≡ weightsOf m b
+    unfolding weightsOf
+    weights-in b =
+        let n : length (partOf plan b plan) ≡ length (weightsOf m b)
+        = ap (λ (cs : List ℕ). length cs) (A .children b) ∙ sym (length-map (childrenOf m b) (weightOf m)) in
+        rw (n, w b) (words-again (kindIn plan b) (weightsOf m b))
+
     -- the view is the map's
     pub view-is : viewIn plan values ≡ viewOf m
     unfolding viewOf
@@ -177,8 +213,9 @@ module _ (m : Map) (L : Loadable m) {plan : List ℕ} (K : Planned m plan) where
         λ i.
         record {
           seed = K .seeded i;
+          kind = λ b. kind-is b i;
           children = λ b. A .children b i;
-          weights = λ b. w b i;
+          weights = λ b. weights-in b i;
           type = λ x. types-are x i;
           acceptance = λ d. P .at d i;
         }

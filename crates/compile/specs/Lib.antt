@@ -4,4 +4,5 @@ pub mod Reading
 pub mod Links
 pub mod Weights
 pub mod Weighing
+pub mod Trees
 pub mod Compiled

@@ -14,7 +14,7 @@ use Rattle.definitions.specs.declared.Change.{Change}
 use Rattle.definitions.specs.declared.Change.the-variants.{Acceptance, Weight, Malformed}
 use Rattle.definitions.specs.Frames.{framesIn}
 use Rattle.definitions.specs.Map.{Map, mapOf}
-use Rattle.definitions.specs.View.{bucketType, acceptanceOf, deviceWeight}
+use Rattle.definitions.specs.View.{bucketType, kindNumber, acceptanceOf, deviceWeight}
 use Rattle.definitions.specs.Load.{deviceRanged, bucketRanged, loadNumber}
 use Rattle.definitions.specs.Edit.{withAcceptance, withWeight, put}
 use Rattle.laws.specs.Lists.{every-at, getD-mapped}
@@ -126,13 +126,19 @@ edited-count t s c e = shape-devices t s e ∙ sym (put-length (mapOf t) c)
 
 -- ---- the buckets
 
--- the types of the buckets from the k-th on
-abbrev pub TypesFrom : Map → List ℕ → ℕ → Type 0
-TypesFrom m ts k = From (λ (b : Bucket). b .number) (λ (b : Bucket). b .ty) (m .buckets) 256 ts k
+-- a field of the buckets from the k-th on
+abbrev pub FieldFrom : (Bucket → ℕ) → Map → List ℕ → ℕ → Type 0
+FieldFrom field m ts k = From (λ (b : Bucket). b .number) field (m .buckets) 256 ts k
 
--- no type yet
-pub types-none : (m : Map) (k : ℕ) → k ≡ length (m .buckets) → TypesFrom m (replicate 256 0) k
-types-none m k e = from-none (λ b. b .number) (λ b. b .ty) (m .buckets) 256 k e
+abbrev pub TypesFrom : Map → List ℕ → ℕ → Type 0
+TypesFrom = FieldFrom (λ (b : Bucket). b .ty)
+
+abbrev pub KindsFrom : Map → List ℕ → ℕ → Type 0
+KindsFrom = FieldFrom (λ (b : Bucket). b .kind)
+
+-- none yet
+pub field-none : (field : Bucket → ℕ) (m : Map) (k : ℕ) → k ≡ length (m .buckets) → FieldFrom field m (replicate 256 0) k
+field-none field m k e = from-none (λ b. b .number) field (m .buckets) 256 k e
 
 module _ (m : Map) (l : Loadable m) (k : ℕ) (b : Bucket) (p : 0 < k) (h : k ≤ length (m .buckets)) (e : b ≡ getD (m .buckets) (k - 1) noBucket) where
   -- a bucket's number has its place
@@ -141,14 +147,20 @@ module _ (m : Map) (l : Loadable m) (k : ℕ) (b : Bucket) (p : 0 < k) (h : k �
       let r = every-at bucketRanged (m .buckets) (k - 1) noBucket (ranged-is m (l .ranged) .buckets) (omega arith) in
       rw e (omega (arith, bucket-ranged (getD (m .buckets) (k - 1) noBucket) r .number))
 
-  -- one type more
-  pub types-more : (ts : List ℕ) → TypesFrom m ts k → TypesFrom m (set ts (b .number) (b .ty)) (k - 1)
-  types-more ts = from-more (λ b. b .number) (λ b. b .ty) (m .buckets) 256 ts k b noBucket p h e bucket-small
+  -- one more
+  pub field-more : (field : Bucket → ℕ) (ts : List ℕ) → FieldFrom field m ts k → FieldFrom field m (set ts (b .number) (field b)) (k - 1)
+  field-more field ts = from-more (λ b. b .number) field (m .buckets) 256 ts k b noBucket p h e bucket-small
 
--- all types
-pub types-all : (m : Map) (k : ℕ) (ts : List ℕ) → k ≤ 0 → TypesFrom m ts k → Tabled ts 256 (bucketType m)
-unfolding bucketType
-types-all m k ts h f = from-all (λ b. b .number) (λ b. b .ty) (m .buckets) 256 ts k h f
+module _ (m : Map) (k : ℕ) (ts : List ℕ) (h : k ≤ 0) where
+  -- all types
+  pub types-all : TypesFrom m ts k → Tabled ts 256 (bucketType m)
+  unfolding bucketType
+  types-all f = from-all (λ b. b .number) (λ b. b .ty) (m .buckets) 256 ts k h f
+
+  -- all kinds
+  pub kinds-all : KindsFrom m ts k → Tabled ts 256 (kindNumber m)
+  unfolding kindNumber
+  kinds-all f = from-all (λ b. b .number) (λ b. b .kind) (m .buckets) 256 ts k h f
 
 -- ---- the steps
 

@@ -3,7 +3,7 @@ ghost use mathlib.Core.Path.{_≡_};
 ghost use Prim.Native.Nat.{_+_, _≤_};
 ghost use lib.ListN.{length};
 ghost use Rattle.hierarchy.specs.Sections.{Laid};
-ghost use Rattle.hierarchy.specs.Arrays.{firstsIn, countsIn, typesIn, childrenIn, seedIn, acceptancesIn};
+ghost use Rattle.hierarchy.specs.Arrays.{firstsIn, countsIn, typesIn, kindsIn, childrenIn, seedIn, acceptancesIn};
 use hierarchy::Plan;
 use hierarchy::Values;
 
@@ -23,26 +23,28 @@ pub fn plan_of<'a>(
     first: &'a [u32; 256],
     count: &'a [u32; 256],
     types: &'a [u32; 256],
+    kinds: &'a [u32; 256],
     items: &'a [u32; 1280],
     seed: u32,
 ) -> Plan
     ensures { λ p. ⌜ (firstsIn p ≡ now (first .entry)) × (countsIn p ≡ now (count .entry)) × (typesIn p ≡ now (types .entry))
-        × (childrenIn p ≡ now (items .entry)) × (seedIn p ≡ seed) ⌝ }
+        × (kindsIn p ≡ now (kinds .entry)) × (childrenIn p ≡ now (items .entry)) × (seedIn p ≡ seed) ⌝ }
 {
     let mut plan = [0u32; hierarchy::SEED + 1];
     lay(first, &mut plan, 0);
     lay(count, &mut plan, hierarchy::COUNT);
     lay(types, &mut plan, hierarchy::TYPES);
+    lay(kinds, &mut plan, hierarchy::KINDS);
     lay(items, &mut plan, hierarchy::CHILDREN);
     plan[hierarchy::SEED] = seed;
     plan
 }
 
-pub fn values_of<'a>(acceptance: &'a [u32; 1024], weights: &'a [u32; 1280]) -> Values
-    ensures { λ v. ⌜ (acceptancesIn v ≡ now (acceptance .entry)) × (childrenIn v ≡ now (weights .entry)) ⌝ }
+pub fn values_of<'a>(acceptance: &'a [u32; 1024], words: &'a [u32; 1280]) -> Values
+    ensures { λ v. ⌜ (acceptancesIn v ≡ now (acceptance .entry)) × (childrenIn v ≡ now (words .entry)) ⌝ }
 {
     let mut values = [0u32; hierarchy::SEED];
     lay(acceptance, &mut values, 0);
-    lay(weights, &mut values, hierarchy::CHILDREN);
+    lay(words, &mut values, hierarchy::CHILDREN);
     values
 }

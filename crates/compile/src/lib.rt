@@ -25,6 +25,7 @@ pub mod devices;
 mod join;
 mod links;
 pub mod steps;
+mod trees;
 mod weights;
 
 // The weights of the buckets, by number, of whichever map this is the plan and `own` the weights of the devices.
@@ -35,7 +36,7 @@ pub fn bucket_weights<'a>(plan: &'a Plan, own: &'a [u32; 1024]) -> [u32; 256]
     let all: &[u32] = plan;
     let first = &all[0..hierarchy::COUNT];
     let count = &all[hierarchy::COUNT..hierarchy::TYPES];
-    let types = &all[hierarchy::TYPES..hierarchy::TYPES_END];
+    let types = &all[hierarchy::TYPES..hierarchy::KINDS];
     let items = &all[hierarchy::CHILDREN..hierarchy::SEED];
     weights::loads_of(first, count, items, own, types)
 }
@@ -58,10 +59,11 @@ pub fn values_of<'a>(plan: &'a Plan, own: &'a [u32; 1024], acceptance: &'a [u32;
         → viewIn (now (plan .entry)) r ≡ viewOf m) ⌝ }
 {
     let weights = weigh_children(plan, own);
-    join::values_of(acceptance, &weights)
+    let words = trees::words_of(plan, weights);
+    join::values_of(acceptance, &words)
 }
 
-// What no edit changes: children, types and the seed.
+// What no edit changes: children, types, kinds and the seed.
 pub fn plan_of(t: &[u8], s: Shape) -> Plan
     requires { ⌜ Readable (now t) s (mapOf (now t)) ⌝ }
     ensures { λ r. ⌜ Planned (mapOf (now (t .entry))) r ⌝ }
@@ -70,8 +72,10 @@ pub fn plan_of(t: &[u8], s: Shape) -> Plan
     let first = children.first;
     let count = children.count;
     let items = children.items;
-    let types = buckets::types_of(t, s);
-    join::plan_of(&first, &count, &types, &items, jenkins::SEED)
+    let buckets = buckets::buckets_of(t, s);
+    let types = buckets.types;
+    let kinds = buckets.kinds;
+    join::plan_of(&first, &count, &types, &kinds, &items, jenkins::SEED)
 }
 
 // What an edit changes: the weights and the acceptances, beside the plan, which it leaves. The edit need not be written into the text yet;

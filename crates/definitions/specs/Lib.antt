@@ -5,6 +5,7 @@ pub mod Map
 pub mod View
 pub mod Hash
 pub mod Straw
+pub mod Tree
 pub mod Walk
 pub mod Select
 pub mod Rule

@@ -59,7 +59,7 @@ unfoldable pub deviceRanged : Device → Bool
 deviceRanged d = leb (d .number) 1023 && leb (d .weight) 65535 && leb (d .acceptance) 65536
 
 unfoldable pub bucketRanged : Bucket → Bool
-bucketRanged b = leb (b .number) 255 && within 1 255 (b .ty)
+bucketRanged b = leb (b .number) 255 && within 1 255 (b .ty) && within 1 2 (b .kind)
 
 unfoldable pub linkRanged : Link → Bool
 linkRanged l = leb (l .bucket) 255 && (ltb (l .child) 1024 || within 65536 65791 (l .child))

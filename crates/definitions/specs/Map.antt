@@ -24,7 +24,7 @@ abbrev pub deviceIn : Frame → Device
 deviceIn f = record { number = field 0 f; weight = field 1 f; acceptance = field 2 f }
 
 abbrev pub bucketIn : Frame → Bucket
-bucketIn f = record { number = field 0 f; ty = field 1 f }
+bucketIn f = record { number = field 0 f; ty = field 1 f; kind = field 2 f }
 
 abbrev pub linkIn : Frame → Link
 linkIn f = record { bucket = field 0 f; child = field 1 f }

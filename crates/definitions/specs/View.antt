@@ -1,19 +1,22 @@
 -- Document 01, "The map's frames": what placing reads of a map. All that is defined about draws, walks and rules goes by a `View`.
-use mathlib.Core.Bool.{Bool, true, false}
+use mathlib.Core.Bool.{Bool, true, false, cond}
 use mathlib.Core.List.{List, map}
 use Prim.Native.Nat.{ℕ, zero, suc}
 use lib.Dec.{eqb}
 use Rattle.definitions.specs.declared.Device.{Device}
 use Rattle.definitions.specs.declared.Bucket.{Bucket}
 use Rattle.definitions.specs.declared.Link.{Link}
+use Rattle.definitions.specs.declared.Kind.{Kind}
+use Rattle.definitions.specs.declared.Kind.the-variants.{Straw, Tree}
 use Rattle.definitions.specs.Lists.{kept, lookup, sum}
 use Rattle.definitions.specs.Hash.{S}
 use Rattle.definitions.specs.Map.{Map, isBucket, bucketNumber}
 
--- the seed of the hashes; of a bucket, by its number, the children's item numbers and their weights, in one order; of an item, its
+-- the seed of the hashes; of a bucket, by its number, its kind, the children's item numbers and their weights, in one order; of an item, its
 -- type; of a device, its acceptance
 pub record View : Type 0 where
   pub seed : ℕ
+  pub kind : ℕ → Kind
   pub children : ℕ → List ℕ
   pub weights : ℕ → List ℕ
   pub type : ℕ → ℕ
@@ -26,6 +29,17 @@ childrenOf m b = map (λ (l : Link). l .child) (kept (λ (l : Link). eqb (l .buc
 -- the type of bucket b
 unfoldable pub bucketType : Map → ℕ → ℕ
 bucketType m b = lookup (λ (k : Bucket). k .number) (λ (k : Bucket). k .ty) b (m .buckets)
+
+-- "01 straw, 02 tree"
+abbrev pub kindFrom : ℕ → Kind
+kindFrom n = cond (eqb n 2) Tree Straw
+
+-- the kind of bucket b, as its frame has it
+unfoldable pub kindNumber : Map → ℕ → ℕ
+kindNumber m b = lookup (λ (k : Bucket). k .number) (λ (k : Bucket). k .kind) b (m .buckets)
+
+unfoldable pub bucketKind : Map → ℕ → Kind
+bucketKind m b = kindFrom (kindNumber m b)
 
 -- "A device has type 0."
 unfoldable pub typeBy : Map → ℕ → Bool → ℕ
@@ -67,6 +81,7 @@ unfoldable pub viewOf : Map → View
 viewOf m =
     record {
       seed = S;
+      kind = bucketKind m;
       children = childrenOf m;
       weights = weightsOf m;
       type = typeOf m;

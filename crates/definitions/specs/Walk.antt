@@ -6,6 +6,8 @@ use Prim.Native.Nat.{ℕ, zero, suc, _+_, _-_, _*_, _%_}
 use lib.Dec.{ltb, eqb}
 use Rattle.definitions.specs.declared.Drawn.{Drawn}
 use Rattle.definitions.specs.declared.Drawn.the-variants.{Winner, Nothing}
+use Rattle.definitions.specs.declared.Kind.{Kind}
+use Rattle.definitions.specs.declared.Kind.the-variants.{Straw, Tree}
 use Rattle.definitions.specs.declared.Mode.{Mode}
 use Rattle.definitions.specs.declared.Mode.the-variants.{FirstN, Independent, Through}
 use Rattle.definitions.specs.declared.Verdict.{Verdict}
@@ -21,6 +23,7 @@ use Rattle.definitions.specs.declared.Ranked.{Ranked}
 use Rattle.definitions.specs.Lists.{has}
 use Rattle.definitions.specs.Hash.{hash2}
 use Rattle.definitions.specs.Straw.{drawOf}
+use Rattle.definitions.specs.Tree.{treeOf}
 use Rattle.definitions.specs.Map.{bucketItem, isBucket, bucketNumber}
 use Rattle.definitions.specs.View.{View}
 
@@ -34,9 +37,15 @@ pub record Descent : Type 0 where
   pub landed : Landed
   pub events : List Event
 
+-- "Lists are compared with the definition of each bucket's own kind.": the draw of a bucket of this kind and item number, with these
+-- children and weights
+unfoldable pub drawBy : Kind → ℕ → ℕ → ℕ → ℕ → List ℕ → List ℕ → Drawn
+drawBy Straw seed x r item items weights = drawOf seed x r items weights
+drawBy Tree seed x r item items weights = treeOf seed x r item weights items
+
 -- the draw of group x at bucket b with try number r
 unfoldable pub drawAt : View → ℕ → ℕ → ℕ → Drawn
-drawAt v x r b = drawOf (v .seed) x r (v .children b) (v .weights b)
+drawAt v x r b = drawBy (v .kind b) (v .seed) x r (bucketItem b) (v .children b) (v .weights b)
 
 -- the descent ends with this draw
 unfoldable pub landing : ℕ → ℕ → Drawn → Descent

@@ -9,10 +9,17 @@ pub struct Device {
     pub acceptance: u32,
 }
 
-// Frame 02: a bucket's number and its type.
+// Frame 02: a bucket's number, its type and its kind (1 straw, 2 tree).
 pub struct Bucket {
     pub number: u32,
     pub ty: u32,
+    pub kind: u32,
+}
+
+// The kinds of bucket.
+pub enum Kind {
+    Straw,
+    Tree,
 }
 
 // Frame 03: a bucket and one of its children, by item number.

@@ -5,3 +5,4 @@ pub mod Instance
 pub mod Sample
 pub mod ThreeCauses
 pub mod Through
+pub mod Trees

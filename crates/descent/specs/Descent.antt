@@ -3,20 +3,27 @@
 use mathlib.Core.Path.{_≡_, sym, ap, _∙_, subst}
 use mathlib.Core.List.{List}
 use mathlib.Core.Logic.{inl, inr}
-use Prim.Native.Nat.{ℕ, _<_, _≤_}
+use Prim.Native.Nat.{ℕ, _+_, _<_, _≤_}
 use native.Mathlib.Omega.{arith}
 use native.Mathlib.Nat.{lt-of-not-le}
-use borrow.Author.Tests.{lt-leb, le-leb}
-use lib.ListN.{drop, length-take}
+use borrow.Author.Tests.{lt-leb, le-leb, eq-eqb, ne-eqb}
+use lib.ListN.{length, getD, take, drop, length-take}
 use lib.Seq.{getD-take, getD-drop}
+use Rattle.definitions.specs.declared.Drawn.{Drawn}
 use Rattle.definitions.specs.declared.Drawn.the-variants.{Winner, Nothing}
+use Rattle.definitions.specs.declared.Kind.{Kind}
+use Rattle.definitions.specs.declared.Kind.the-variants.{Straw, Tree}
 use Rattle.definitions.specs.declared.Landed.{Landed}
+use Rattle.definitions.specs.Straw.{drawOf}
+use Rattle.definitions.specs.Tree.{treeOf}
 use Rattle.definitions.specs.Map.{bucketNumber, bucketItem}
 use Rattle.definitions.specs.View.{View}
-use Rattle.definitions.specs.Walk.{Descent, drawAt, landing, deeper, descend}
-use Rattle.hierarchy.specs.Sections.{section-beyond}
-use Rattle.hierarchy.specs.Arrays.{countAt, firstIn, countIn, bucketTypeIn, childrenIn, childIn, typeIn, viewIn, ItemRange, Sound}
+use Rattle.definitions.specs.Walk.{Descent, drawBy, drawAt, landing, deeper, descend}
+use Rattle.hierarchy.specs.Sections.{section-at, section-beyond, section-part}
+use Rattle.hierarchy.specs.Sums.{weightsFrom, weightsBy, firstOf-length}
+use Rattle.hierarchy.specs.Arrays.{countAt, kindsAt, childrenAt, seedIn, firstIn, countIn, bucketTypeIn, kindIn, partOf, childrenIn, childIn, typeIn, viewIn, ItemRange, Sound}
 use Rattle.laws.specs.Draw.{winner-child}
+use Rattle.laws.specs.Tree.{tree-child}
 use Rattle.laws.specs.Fuel.{Sinks}
 use Rattle.laws.specs.Walk.{descend-none, descend-stop, descend-down}
 
@@ -36,6 +43,15 @@ pub bucket-below : (i : ℕ) → ItemRange i → 65536 ≤ i → bucketNumber i 
 bucket-below i (inl h) l = absurd (omega arith)
 bucket-below i (inr h) l = omega (arith, h .1)
 
+-- the winner stands among the children, whatever their weights
+drawn-at : (k : Kind) (seed x r item : ℕ) (items words : List ℕ) (i : ℕ) → drawBy k seed x r item items (weightsBy k (length items) words) ≡ Winner i
+    → (j : ℕ) × (j < length items) × (getD items j 0 ≡ i)
+unfolding drawBy weightsBy weightsFrom
+drawn-at Straw seed x r item items words i e = let (j, l, at, above) = winner-child seed x r items words i e in (j, l, at)
+drawn-at Tree seed x r item items words i e =
+    let (j, l, at, above) = tree-child seed x r item (weightsFrom words (length items)) items (firstOf-length (length items) _) i e in
+    (j, l, at)
+
 -- an item of a type above another is a bucket's
 pub typed-bucket : (plan : List ℕ) (i t : ℕ) → t < typeIn plan i → 65536 ≤ i
 typed-bucket plan i t l = lt-of-not-le (λ (h : i ≤ 65535). omega (arith, type-device plan i (omega arith)))
@@ -48,11 +64,26 @@ module _ {plan : List ℕ} (sound : Sound plan) (values : List ℕ) where
   child-at : (x r b i : ℕ) → drawAt v x r b ≡ Winner i → (j : ℕ) × (j < countIn plan b) × (childIn plan b j ≡ i)
   unfolding drawAt
   child-at x r b i e =
-      let (j, l, at, above) = winner-child (v .seed) x r (v .children b) (v .weights b) i e in
+      let (j, l, at) = drawn-at (kindIn plan b) (v .seed) x r (bucketItem b) (v .children b) (partOf plan b values) i e in
       let n : ℕ = countIn plan b in
       let rest : List ℕ = drop (firstIn plan b) (childrenIn plan) in
       let lt : j < n = omega (arith, l, length-take n rest) in
       (j, lt, sym (getD-take n rest j 0 lt ∙ getD-drop (firstIn plan b) (childrenIn plan) j 0) ∙ at)
+
+  -- the draw at bucket b, by its part of the plan and of the values, which begins at a and has n words
+  module _ (x r b k a n : ℕ) (h : b < 256) (here : k ≡ b) (begins : a ≡ childrenAt + firstIn plan b) (many : n ≡ countIn plan b) (d : Drawn) where
+    part-is : (xs : List ℕ) → partOf plan b xs ≡ take n (drop a xs)
+    part-is xs = rw (begins, many) (section-part childrenAt 1280 (firstIn plan b) (countIn plan b) xs (sound .inside b h))
+
+    pub straw-is : (getD plan (kindsAt + k) 0 ≡ 2 → ⊥) → d ≡ drawOf (seedIn plan) x r (take n (drop a plan)) (take n (drop a values)) → d ≡ drawAt v x r b
+    unfolding drawAt drawBy weightsBy
+    straw-is f e = rw (section-at kindsAt 256 b plan h, ← here, ne-eqb (getD plan (kindsAt + k) 0) 2 f, here, part-is plan, part-is values) e
+
+    pub tree-is : getD plan (kindsAt + k) 0 ≡ 2
+        → d ≡ treeOf (seedIn plan) x r (bucketItem b) (weightsFrom (take n (drop a values)) (length (take n (drop a plan)))) (take n (drop a plan))
+        → d ≡ drawAt v x r b
+    unfolding drawAt drawBy weightsBy
+    tree-is f e = rw (section-at kindsAt 256 b plan h, ← here, eq-eqb (getD plan (kindsAt + k) 0) 2 f, here, part-is plan, part-is values) e
 
   -- no bucket that is not in the plan has a child
   pub within-plan : (x r b i : ℕ) → drawAt v x r b ≡ Winner i → b < 256

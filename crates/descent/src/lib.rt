@@ -1,9 +1,11 @@
-// Document 01, "Walk, select and rule": the draw at a bucket, and the descent from a bucket to an item of the wanted type.
+// Document 01, "Walk, select and rule": the draw at a bucket of either kind, and the descent from a bucket to an item of the wanted type.
 ghost use mathlib.Core.Path.{_≡_};
 ghost use Prim.Native.Nat.{_+_, _<_, _≤_};
 ghost use lib.ListN.{length, take, drop};
 ghost use Rattle.definitions.specs.Straw.{drawOf};
+ghost use Rattle.definitions.specs.Tree.{treeOf};
 ghost use Rattle.definitions.specs.Walk.{drawAt, descend};
+ghost use Rattle.hierarchy.specs.Sums.{weightsFrom};
 ghost use Rattle.hierarchy.specs.Arrays.{typeIn, viewIn, ItemRange, Sound};
 ghost use Rattle.descent.specs.Descent.{LandedBounds};
 use definitions::Drawn;
@@ -11,6 +13,7 @@ use definitions::Landed;
 use hierarchy::Plan;
 use hierarchy::Values;
 use item::Item;
+use tree::Asked;
 
 fn wide(x: u32) -> usize
     ensures { λ r. ⌜ r ≡ x ⌝ }
@@ -32,8 +35,8 @@ pub fn type_of(plan: &Plan, i: u32) -> u32
     }
 }
 
-// The draw among the n children from a on.
-fn draw_part(plan: &[u32], values: &[u32], seed: u32, x: u32, r: u32, a: usize, n: usize) -> Drawn
+// The draw of a straw among the n children from a on.
+fn straw_part(plan: &[u32], values: &[u32], seed: u32, x: u32, r: u32, a: usize, n: usize) -> Drawn
     requires { ⌜ (a + n ≤ length (now plan)) × (a + n ≤ length (now values)) × (n ≤ 64) ⌝ }
     ensures { λ d. ⌜ d ≡ drawOf seed x r (take n (drop a (now (plan .entry)))) (take n (drop a (now (values .entry)))) ⌝ }
 {
@@ -41,15 +44,31 @@ fn draw_part(plan: &[u32], values: &[u32], seed: u32, x: u32, r: u32, a: usize, 
     straw::draw::draw(seed, x, r, &plan[a..e], &values[a..e])
 }
 
-// The draw at bucket b.
+// And that of a tree.
+fn tree_part(plan: &[u32], values: &[u32], q: Asked, a: usize, n: usize) -> Drawn
+    requires { ⌜ (a + n ≤ length (now plan)) × (a + n ≤ length (now values)) × (n ≤ 64) ⌝ }
+    ensures { λ d. ⌜ d ≡ treeOf (q .seed) (q .x) (q .r) (q .item)
+        (weightsFrom (take n (drop a (now (values .entry)))) (length (take n (drop a (now (plan .entry)))))) (take n (drop a (now (plan .entry)))) ⌝ }
+{
+    let e = a + n;
+    tree::draw(q, &plan[a..e], &values[a..e])
+}
+
+// The draw at bucket b. Nothing else asks of which kind a bucket is.
 pub fn draw_at<'a>(plan: &'a Plan, values: &'a Values, x: u32, r: u32, b: u32) -> Drawn
     requires { ⌜ Sound (now plan) × (b < 256) ⌝ }
     ensures { λ d. ⌜ d ≡ drawAt (viewIn (now (plan .entry)) (now (values .entry))) x r b ⌝ }
 {
     let k = wide(b);
-    let c = hierarchy::COUNT + k;
     let a = hierarchy::CHILDREN + wide(plan[k]);
-    draw_part(plan, values, plan[hierarchy::SEED], x, r, a, wide(plan[c]))
+    let n = wide(plan[hierarchy::COUNT + k]);
+    let seed = plan[hierarchy::SEED];
+    if plan[hierarchy::KINDS + k] == hierarchy::TREE {
+        let item = Item::BUCKET_BASE + b;
+        tree_part(plan, values, Asked { seed, x, r, item }, a, n)
+    } else {
+        straw_part(plan, values, seed, x, r, a, n)
+    }
 }
 
 // The descent from bucket b, which ends with a draw of none or of an item whose type is not above t.

@@ -51,6 +51,7 @@ pub fn bucket(t: &[u8], s: Shape, k: usize) -> Bucket
     Bucket {
         number: digits::field(t, at + 2, 4),
         ty: digits::field(t, at + 6, 2),
+        kind: digits::field(t, at + 8, 2),
     }
 }
 

@@ -3,20 +3,25 @@ use mathlib.Core.Bool.{cond}
 use mathlib.Core.List.{List, map}
 use mathlib.Core.Logic.{_⊎_}
 use Prim.Native.Nat.{ℕ, _+_, _<_, _≤_}
-use lib.ListN.{getD, take, drop}
+use lib.ListN.{length, getD, take, drop}
 use Rattle.definitions.specs.declared.Action.{Action}
+use Rattle.definitions.specs.declared.Kind.{Kind}
 use Rattle.definitions.specs.Map.{isBucket, bucketNumber, actionOf}
-use Rattle.definitions.specs.View.{View}
+use Rattle.definitions.specs.View.{View, kindFrom}
 use Rattle.hierarchy.specs.declared.Rule.{Rule}
 use Rattle.hierarchy.specs.Sections.{section}
+use Rattle.hierarchy.specs.Sums.{weightsBy}
 
--- ---- where the sections begin: COUNT, TYPES, CHILDREN and SEED of src/lib.rt, which has the same numbers
+-- ---- where the sections begin: COUNT, TYPES, KINDS, CHILDREN and SEED of src/lib.rt, which has the same numbers
 
 abbrev pub countAt : ℕ
 countAt = 256
 
 abbrev pub typesAt : ℕ
 typesAt = 512
+
+abbrev pub kindsAt : ℕ
+kindsAt = 768
 
 abbrev pub childrenAt : ℕ
 childrenAt = 1024
@@ -26,7 +31,7 @@ seedAt = 2304
 
 -- ---- the plan
 
--- of each bucket: where its children begin among those of all, how many they are, its type
+-- of each bucket: where its children begin among those of all, how many they are, its type, its kind
 abbrev pub firstsIn : List ℕ → List ℕ
 firstsIn plan = section 0 256 plan
 
@@ -35,6 +40,9 @@ countsIn plan = section countAt 256 plan
 
 abbrev pub typesIn : List ℕ → List ℕ
 typesIn plan = section typesAt 256 plan
+
+abbrev pub kindsIn : List ℕ → List ℕ
+kindsIn plan = section kindsAt 256 plan
 
 -- of bucket b
 abbrev pub firstIn : List ℕ → ℕ → ℕ
@@ -46,6 +54,9 @@ countIn plan b = getD (countsIn plan) b 0
 abbrev pub bucketTypeIn : List ℕ → ℕ → ℕ
 bucketTypeIn plan b = getD (typesIn plan) b 0
 
+abbrev pub kindIn : List ℕ → ℕ → Kind
+kindIn plan b = kindFrom (getD (kindsIn plan) b 0)
+
 -- the type of item i
 abbrev pub typeIn : List ℕ → ℕ → ℕ
 typeIn plan i = cond (isBucket i) (bucketTypeIn plan (bucketNumber i)) 0
@@ -54,7 +65,7 @@ typeIn plan i = cond (isBucket i) (bucketTypeIn plan (bucketNumber i)) 0
 abbrev pub seedIn : List ℕ → ℕ
 seedIn plan = getD plan seedAt 0
 
--- ---- the children of all buckets in the plan, and their weights at the same place in the values
+-- ---- the children of all buckets in the plan, and at the same place in the values the weights of a straw's, the sums of a tree's
 
 abbrev pub childrenIn : List ℕ → List ℕ
 childrenIn xs = section childrenAt 1280 xs
@@ -82,8 +93,9 @@ abbrev pub viewIn : List ℕ → List ℕ → View
 viewIn plan values =
     record {
       seed = seedIn plan;
+      kind = kindIn plan;
       children = λ b. partOf plan b plan;
-      weights = λ b. partOf plan b values;
+      weights = λ b. weightsBy (kindIn plan b) (length (partOf plan b plan)) (partOf plan b values);
       type = typeIn plan;
       acceptance = λ d. getD (acceptancesIn values) d 0;
     }

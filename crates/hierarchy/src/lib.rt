@@ -2,10 +2,11 @@
 use definitions::Step;
 
 // The plan, which no edit changes: of each bucket, by its number, where its children begin among the children of all, how many they are,
-// and its type; the children of all buckets, by item number; the seed.
+// its type and its kind; the children of all buckets, by item number; the seed.
 pub type Plan = [u32; SEED + 1];
 
-// The values, which an edit changes: of each device, by its number, its acceptance; the weights of the children.
+// The values, which an edit changes: of each device, by its number, its acceptance; of the children of a straw their weights, and of those of a
+// tree what each weighs together with those before it.
 pub type Values = [u32; SEED];
 
 // Where their sections begin, the first of each at the front. specs/Arrays has the same numbers.
@@ -13,13 +14,15 @@ pub const COUNT: usize = 256;
 
 pub const TYPES: usize = 512;
 
-// From here to the children the plan has room for one more section of the buckets: their kinds.
-pub const TYPES_END: usize = 768;
+pub const KINDS: usize = 768;
 
-// The children in the plan, and their weights in the values, begin at one place: a bucket has the same part of both.
+// The children in the plan, and what the values have of them, begin at one place: a bucket has the same part of both.
 pub const CHILDREN: usize = 1024;
 
 pub const SEED: usize = 2304;
+
+// The kind of a tree, as frame 02 has it.
+pub const TREE: u32 = 2;
 
 // The rule: the first `len` steps.
 pub struct Rule {

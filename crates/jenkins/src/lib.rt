@@ -1,8 +1,8 @@
-// Document 01, "Hash": Jenkins' mix, and the hashes of two and of three numbers.
+// Document 01, "Hash": Jenkins' mix, and the hashes of two and of three numbers; change 4: of four.
 ghost use mathlib.Core.Path.{_≡_};
 ghost use Prim.Native.Nat.{_<_};
 ghost use lib.ListN.{getD};
-ghost use Rattle.definitions.specs.Hash.{minus, shiftedBy, right, rows, mixStep, mix, hash2, hash3};
+ghost use Rattle.definitions.specs.Hash.{minus, shiftedBy, right, rows, mixStep, mix, hash2, hash3, hash4};
 use definitions::Mix;
 use definitions::Row;
 
@@ -114,4 +114,37 @@ pub fn hash3(seed: u32, p: u32, q: u32, s: u32) -> u32
         c: n.c,
     });
     o.c
+}
+
+// The hash of four numbers; the seed is S in document 01.
+pub fn hash4(seed: u32, p: u32, q: u32, s: u32, z: u32) -> u32
+    ensures { λ h. ⌜ h ≡ hash4 seed p q s z ⌝ }
+{
+    let k = mix(Mix {
+        a: p,
+        b: q,
+        c: seed ^ p ^ q ^ s ^ z,
+    });
+    let l = mix(Mix { a: s, b: z, c: k.c });
+    let m = mix(Mix {
+        a: k.a,
+        b: V,
+        c: l.c,
+    });
+    let n = mix(Mix {
+        a: W,
+        b: k.b,
+        c: m.c,
+    });
+    let o = mix(Mix {
+        a: l.a,
+        b: m.b,
+        c: n.c,
+    });
+    let u = mix(Mix {
+        a: n.a,
+        b: l.b,
+        c: o.c,
+    });
+    u.c
 }

@@ -4,11 +4,12 @@ use mathlib.Core.Path.{_≡_, refl, sym, ap, _∙_, subst}
 use mathlib.Core.Bool.{Bool, true, false, cond}
 use mathlib.Core.Logic.{_⊎_, inl, inr, ⊎-elim}
 use mathlib.Core.List.{List, [], _∷_, map, List·Memᴰ, List·Memᴰ·head, List·Memᴰ·tail, Memᴰ·cast, Memᴰ·of-map}
-use Prim.Native.Nat.{ℕ, zero, suc, _+_, _<_, _≤_}
+use Prim.Native.Nat.{ℕ, zero, suc, _+_, _-_, _<_, _≤_}
 use native.Mathlib.Nat.{le-refl}
+use native.Mathlib.Decide.{decLt}
 use native.Mathlib.Omega.{arith}
 use lib.Dec.{ltb, eqb}
-use lib.ListN.{length, getD}
+use lib.ListN.{length, getD, length-map, List·getD-eq-default}
 use borrow.Author.Tests.{leb-true, ltb-true, eqb-true, le-leb, lt-leb}
 use Rattle.definitions.specs.declared.Device.{Device}
 use Rattle.definitions.specs.declared.Link.{Link}
@@ -16,17 +17,16 @@ use Rattle.definitions.specs.declared.Change.{Change}
 use Rattle.definitions.specs.declared.Change.the-variants.{Acceptance, Weight, Malformed}
 use Rattle.definitions.specs.declared.Drawn.the-variants.{Winner}
 use Rattle.definitions.specs.Lists.{kept, lookup, sum, distinct}
-use Rattle.definitions.specs.Hash.{S}
 use Rattle.definitions.specs.Straw.{drawOf}
 use Rattle.definitions.specs.Map.{Map, bucketItem, isBucket, bucketNumber}
 use Rattle.definitions.specs.View.{childrenOf, bucketType, typeBy, typeOf, deviceWeight, weightBy, weightIn, weightOf, weightsOf, viewOf}
-use Rattle.definitions.specs.Walk.{drawAt}
 use Rattle.definitions.specs.Load.{hasDevice, once, falling, light}
 use Rattle.definitions.specs.Edit.{put}
 use Rattle.laws.specs.Lists.{getD-mapped}
 use Rattle.laws.specs.Counting.{distinct-kept, distinct-tail}
-use Rattle.laws.specs.Members.{mem-every, mem-kept, mem-at, not-again, one-member, map-ext}
-use Rattle.laws.specs.Draw.{draw-law, winner-child}
+use Rattle.laws.specs.Members.{mem-every, mem-kept, mem-at, at-mem, not-again, one-member, one-index, map-ext}
+use Rattle.laws.specs.Draw.{draw-law}
+use Rattle.laws.specs.Kinds.{drawn-child}
 use Rattle.laws.specs.Loadable.{Loadable, put-type, put-children, put-weight, acceptance-leaves-weight}
 use Rattle.laws.specs.Fuel.{weight-enough, Sinks}
 
@@ -420,6 +420,45 @@ children-heavier m L d v w R b = go (childrenOf m b) (rw (kids-bucket m b) at (o
     go l (inl e) = inl (map-ext v w l e)
     go l (inr (c, k, h, q)) = inr (c, k, h, λ n s. rw (getD-mapped v l n 0 0 s, getD-mapped w l n 0 0 s) (q (getD l n 0) (mem-at 0 l n s)))
 
+-- the child of bucket b at this place is or holds d, and it alone weighs more by w than by v
+pub record OneHeavier (m : Map) (b d : ℕ) (v w : ℕ → ℕ) : Type 0 where
+  pub place : ℕ
+  pub inside : place < length (childrenOf m b)
+  pub holds : Holds (kidsOf m) (getD (childrenOf m b) place 0) d
+  pub only : (i : ℕ) → (i ≡ place → ⊥) → getD (map v (childrenOf m b)) i 0 ≡ getD (map w (childrenOf m b)) i 0
+  pub by : ℕ
+  pub more : getD (map w (childrenOf m b)) place 0 ≡ getD (map v (childrenOf m b)) place 0 + by
+
+-- where weights rise by d alone, all of a bucket's are equal, or those of one child differ, told by its place
+pub child-heavier : (m : Map) → Loadable m → (d : ℕ) (v w : ℕ → ℕ) → Raises (kidsOf m) d v w → (b : ℕ)
+    → (map v (childrenOf m b) ≡ map w (childrenOf m b)) ⊎ OneHeavier m b d v w
+child-heavier m L d v w R b = ⊎-elim (λ e. inl e) (λ t. let (c, k, h, q) = t in inr (told c k h q)) (children-heavier m L d v w R b)
+  where
+    l : List ℕ
+    l = childrenOf m b
+
+    apart : distinct l ≡ true
+    apart = rw (kids-bucket m b) at (forest m L .apart (bucketItem b))
+
+    told : (c : ℕ) → List·Memᴰ c l → Holds (kidsOf m) c d
+        → ((n : ℕ) → n < length l → (getD (map v l) n 0 ≡ getD (map w l) n 0) ⊎ ((getD l n 0 ≡ c) × (getD (map v l) n 0 ≤ getD (map w l) n 0)))
+        → OneHeavier m b d v w
+    told c k h q =
+        let (p, s, e) = at-mem 0 k in
+        record {
+          place = p;
+          inside = s;
+          holds = rw e h;
+          only = λ i f. other i p s e f (decLt i (length l));
+          by = getD (map w l) p 0 - getD (map v l) p 0;
+          more = ⊎-elim (λ o. omega (arith, o)) (λ o. omega (arith, o .1)) (q p s);
+        }
+      where
+        other : (i p : ℕ) → p < length l → getD l p 0 ≡ c → (i ≡ p → ⊥) → Dec (i < length l) → getD (map v l) i 0 ≡ getD (map w l) i 0
+        other i p s e f (yes g) = ⊎-elim (λ o. o) (λ o. absurd (f (one-index l apart i p g s (o .0 ∙ sym e)))) (q i g)
+        other i p s e f (no g) =
+            List·getD-eq-default (map v l) 0 {n = i} (omega (arith, length-map l v)) ∙ sym (List·getD-eq-default (map w l) 0 {n = i} (omega (arith, length-map l w)))
+
 -- what an edit does to a draw: the winner is the same, or where d weighs more it is the child that is or holds d
 pub draw-child : (m : Map) → Loadable m → (d : ℕ) (v w : ℕ → ℕ) → Raises (kidsOf m) d v w → (seed x r b : ℕ)
     → (drawOf seed x r (childrenOf m b) (map v (childrenOf m b)) ≡ drawOf seed x r (childrenOf m b) (map w (childrenOf m b)))
@@ -433,11 +472,9 @@ draw-child m L d v w R seed x r b =
 
 -- in a loadable map each draw goes down, so no descent is what it is because its fuel ran out (`Fuel.descend-enough`)
 pub sinks : (m : Map) → Loadable m → Sinks (viewOf m)
-unfolding viewOf drawAt
+unfolding viewOf
 sinks m L =
     record {
-      drawn = λ x r b i e.
-          let (n, h, q, p) = winner-child S x r (childrenOf m b) (weightsOf m b) i e in
-          forest m L .falls (bucketItem b) i (rw (kids-bucket m b, ← q) (mem-at 0 (childrenOf m b) n h));
+      drawn = λ x r b i e. forest m L .falls (bucketItem b) i (rw (kids-bucket m b) (drawn-child m x r b i e .0));
       device = type-device m;
     }

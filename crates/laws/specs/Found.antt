@@ -27,9 +27,8 @@ use Rattle.definitions.specs.declared.Turn.the-variants.{Fill, Fail}
 use Rattle.definitions.specs.declared.Verdict.{Verdict}
 use Rattle.definitions.specs.declared.Verdict.the-variants.{Held, Rejected, Passed}
 use Rattle.definitions.specs.Lists.{has}
-use Rattle.definitions.specs.Hash.{S}
 use Rattle.definitions.specs.Map.{Map, isBucket, bucketItem, bucketNumber, actionsOf}
-use Rattle.definitions.specs.View.{View, childrenOf, weightsOf, bucketType, typeBy, typeOf, viewOf}
+use Rattle.definitions.specs.View.{View, childrenOf, bucketType, typeBy, typeOf, viewOf}
 use Rattle.definitions.specs.Walk.{hole, Descent, RankEvents, drawAt, landing, deeper, onWinner, onDrawn, descendIn, descend, Trial, plain, plainTest, tryNumber, rankStart, rankEnd, onVerdict, onTried, tested, untested, onward, afterTurn, onTurn, onType, onLanded, onDescent, turnOf, rankFrom, rankBy, innerWalk, found, sought, throughBy, throughTest, testOf, rankOf}
 use Rattle.definitions.specs.Select.{Place, Selected, entriesOf, itemsOf, placeUnder, putOut, holesUnder, nowhere, withRank, nextRank, ranksTo, withHoles, selectAt, selectTo, selectOf}
 use Rattle.definitions.specs.Rule.{Run, taken, selected, act, runTo, widthOf, padded, placedBy, placedOf}
@@ -37,7 +36,7 @@ use Rattle.definitions.specs.Load.{deviceRanged, bucketRanged, hasDevice, hasBu
 use Rattle.laws.specs.Lists.{both, every-at}
 use Rattle.laws.specs.Members.{mem-every, mem-at, Each, each-none, each-one, each-more, each-copies}
 use Rattle.laws.specs.Counting.{number-at, lookup-is}
-use Rattle.laws.specs.Draw.{winner-child}
+use Rattle.laws.specs.Kinds.{drawn-child}
 use Rattle.laws.specs.Loadable.{Loadable, BucketRanged, ChildRanged, ranged-is, device-ranged, bucket-ranged, rising-is, present-is}
 use Rattle.laws.specs.Blocks.{reachedBy, reached, reached-inside, emit-inside}
 use Rattle.laws.specs.Forest.{type-bucket, kids-bucket, kid-link}
@@ -277,7 +276,7 @@ module _ (m : Map) (L : Loadable m) where
   bucket-there : (b : ℕ) → hasBucket m b ≡ true → (k : Bucket) × (k .number ≡ b) × (bucketType m b ≡ k .ty) × BucketRanged k
   unfolding hasBucket bucketType
   bucket-there b e =
-      let none : Bucket = record { number = 0; ty = 0 } in
+      let none : Bucket = record { number = 0; ty = 0; kind = 0 } in
       let (k, l, q, t) = lookup-is (λ (c : Bucket). c .number) none (λ (c : Bucket). c .ty) b (m .buckets) (rising-is m (L .rising) .buckets) e in
       (getD (m .buckets) k none, q, t, bucket-ranged _ (every-at bucketRanged (m .buckets) k none (ranged-is m (L .ranged) .buckets) l))
 
@@ -315,10 +314,7 @@ module _ (m : Map) (L : Loadable m) where
 
   -- and so is an item that is drawn
   pub drawn-present : (x i : ℕ) → DrawnBy (viewOf m) x i → hasItem m i ≡ true
-  unfolding viewOf drawAt
-  drawn-present x i (r, b, e) =
-      let (n, l, q, p) = winner-child S x r (childrenOf m b) (weightsOf m b) i e in
-      child-present b i (rw (← q) (mem-at 0 (childrenOf m b) n l))
+  drawn-present x i (r, b, e) = child-present b i (drawn-child m x r b i e .0)
 
   -- and so is a bucket that is taken
   pub taken-bucket : (k b : ℕ) → k < length (actionsOf m) → getD (actionsOf m) k Idle ≡ Take b → hasBucket m b ≡ true

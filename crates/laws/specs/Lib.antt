@@ -5,6 +5,8 @@ pub mod Members
 pub mod Hash
 pub mod Logarithm
 pub mod Draw
+pub mod Tree
+pub mod Kinds
 pub mod Sparing
 pub mod Questions
 pub mod Loadable

@@ -19,7 +19,7 @@ use Rattle.definitions.specs.declared.Change.{Change}
 use Rattle.definitions.specs.declared.Change.the-variants.{Acceptance, Weight, Malformed}
 use Rattle.definitions.specs.Lists.{every, someOf, linked, sum, firstNo}
 use Rattle.definitions.specs.Map.{Map, isBucket, bucketNumber, actionsOf}
-use Rattle.definitions.specs.View.{childrenOf, bucketType, typeBy, typeOf, acceptanceOf, deviceWeight}
+use Rattle.definitions.specs.View.{childrenOf, bucketType, kindFrom, kindNumber, bucketKind, typeBy, typeOf, acceptanceOf, deviceWeight}
 use Rattle.definitions.specs.Rule.{widths, widthOf}
 use Rattle.definitions.specs.Load.{within, deviceRanged, bucketRanged, linkRanged, stepRanged, ranged, linkBelow, rising, hasDevice, hasBucket, hasItem, takesPresent, present, once, falling, filled, narrow, stand, standing, isOutside, inBlocks, typed, slim, light, mapQuestions, loadable}
 use Rattle.definitions.specs.Edit.{withAcceptance, withWeight, put}
@@ -115,14 +115,16 @@ pub record BucketRanged (b : Bucket) : Type 0 where
   pub number : b .number ≤ 255
   pub least : 1 ≤ b .ty
   pub most : b .ty ≤ 255
+  pub kinds : (1 ≤ b .kind) × (b .kind ≤ 2)
 
 -- a bucket's ranges taken apart
 pub bucket-ranged : (b : Bucket) → bucketRanged b ≡ true → BucketRanged b
 unfolding bucketRanged
 bucket-ranged b e =
-    let q = both (leb (b .number) 255) (within 1 255 (b .ty)) e in
+    let p = both (leb (b .number) 255 && within 1 255 (b .ty)) (within 1 2 (b .kind)) e in
+    let q = both (leb (b .number) 255) (within 1 255 (b .ty)) (p .0) in
     let t = within-is 1 255 (b .ty) (q .1) in
-    record { number = leb-true _ _ (q .0); least = t .0; most = t .1 }
+    record { number = leb-true _ _ (q .0); least = t .0; most = t .1; kinds = within-is 1 2 (b .kind) (p .1) }
 
 -- of a child: a device's item number or a bucket's
 abbrev pub ChildRanged : ℕ → Type 0
@@ -381,6 +383,15 @@ module _ (m : Map) (c : Change) where
   pub put-bucket-type : (b : ℕ) → bucketType (put m c) b ≡ bucketType m b
   unfolding bucketType
   put-bucket-type b = rw (put-buckets m c)
+
+  -- a bucket's kind
+  pub put-kind-number : (b : ℕ) → kindNumber (put m c) b ≡ kindNumber m b
+  unfolding kindNumber
+  put-kind-number b = rw (put-buckets m c)
+
+  pub put-bucket-kind : (b : ℕ) → bucketKind (put m c) b ≡ bucketKind m b
+  unfolding bucketKind
+  put-bucket-kind b = ap kindFrom (put-kind-number b)
 
   -- an item's type
   pub put-type : (i : ℕ) → typeOf (put m c) i ≡ typeOf m i

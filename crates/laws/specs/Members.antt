@@ -69,6 +69,15 @@ pub map-ext : {A B : Type 0} (v w : A → B) (xs : List A) → ((x : A) → List
 map-ext v w [] h = refl
 map-ext v w (x ∷ xs) h = rw (h x (List·Memᴰ·head refl), map-ext v w xs (λ y m. h y (List·Memᴰ·tail m)))
 
+-- in a list without a number twice, a number has one place
+pub one-index : (xs : List ℕ) → distinct xs ≡ true → (i j : ℕ) → i < length xs → j < length xs → getD xs i 0 ≡ getD xs j 0 → i ≡ j
+unfolding distinct
+one-index [] d i j h l e = absurd (omega arith)
+one-index (x ∷ xs) d zero zero h l e = refl
+one-index (x ∷ xs) d zero (suc j) h l e = absurd (not-again x xs d (rw e (mem-at 0 xs j (omega arith))))
+one-index (x ∷ xs) d (suc i) zero h l e = absurd (not-again x xs d (rw (← e) (mem-at 0 xs i (omega arith))))
+one-index (x ∷ xs) d (suc i) (suc j) h l e = ap suc (one-index xs (distinct-tail x xs d) i j (omega arith) (omega arith) e)
+
 -- ---- what holds of each entry
 
 abbrev pub Each : {A : Type 0} → (A → Type 0) → List A → Type 0

@@ -27,16 +27,15 @@ use Rattle.definitions.specs.declared.Turn.the-variants.{Fill, Fail}
 use Rattle.definitions.specs.declared.Verdict.{Verdict}
 use Rattle.definitions.specs.declared.Verdict.the-variants.{Held, Rejected, Passed}
 use Rattle.definitions.specs.Lists.{has, sum}
-use Rattle.definitions.specs.Hash.{S}
 use Rattle.definitions.specs.Map.{Map, bucketItem, bucketNumber, actionsOf}
 use Rattle.definitions.specs.View.{View, childrenOf, weightOf, weightsOf, bucketType, typeOf, viewOf}
 use Rattle.definitions.specs.Walk.{hole, Descent, RankEvents, TurnEvents, drawAt, landing, deeper, onWinner, onDrawn, descendIn, descend, Trial, plain, plainTest, tryNumber, failedTo, retryAt, rankStart, onVerdict, onTried, tested, untested, onward, afterTurn, onTurn, onType, onLanded, onDescent, turnOf, rankFrom, rankBy, innerWalk, sought, throughBy, throughTest, testOf, rankOf}
 use Rattle.definitions.specs.Select.{Place, placeUnder, nowhere}
 use Rattle.definitions.specs.Rule.{Run, taken, selected, act, runTo, widthOf, padded, placedBy, placedOf}
 use Rattle.definitions.specs.Load.{throughTyped, typed, standing}
-use Rattle.laws.specs.Lists.{every-at, getD-mapped}
+use Rattle.laws.specs.Lists.{every-at}
 use Rattle.laws.specs.Members.{Each, each-none, each-one, each-more, each-copies}
-use Rattle.laws.specs.Draw.{winner-child, none-exactly}
+use Rattle.laws.specs.Kinds.{drawn-child, drawn-none}
 use Rattle.laws.specs.Fuel.{Sinks, is-bucket}
 use Rattle.laws.specs.Loadable.{Loadable}
 use Rattle.laws.specs.Blocks.{InOrder, takes, selects, emits, step-inside, step-in-order, reached, reached-inside}
@@ -211,21 +210,13 @@ sum-none (w ∷ ws) h = omega (arith, h 0 (omega arith), sum-none ws (λ n l. h 
 module _ (m : Map) (L : Loadable m) (x : ℕ) where
   -- what is drawn weighs above 0
   pub drawn-weighs : (i : ℕ) → DrawnBy (viewOf m) x i → 0 < weightOf m i
-  unfolding viewOf drawAt weightsOf
-  drawn-weighs i (r, b, e) =
-      let (n, l, q, p) = winner-child S x r (childrenOf m b) (weightsOf m b) i e in
-      omega (arith, p, getD-mapped (weightOf m) (childrenOf m b) n 0 0 l, ap (weightOf m) q)
-
-  -- a draw that finds none: each child weighs 0
-  none-weightless : (r b : ℕ) → drawAt (viewOf m) x r b ≡ Nothing → (n : ℕ) → n < length (childrenOf m b) → getD (weightsOf m b) n 0 ≡ 0
-  unfolding viewOf drawAt
-  none-weightless r b e = none-exactly S x r (childrenOf m b) (weightsOf m b) .0 e
+  drawn-weighs i (r, b, e) = drawn-child m x r b i e .1
 
   -- so a bucket that was drawn has no such draw
   pub drawn-finds : (r b : ℕ) → DrawnBy (viewOf m) x (bucketItem b) → drawAt (viewOf m) x r b ≡ Nothing → ⊥
   unfolding weightsOf
   drawn-finds r b d e =
-      let z = sum-none (weightsOf m b) (λ n l. none-weightless r b e n (omega (arith, l, length-map (childrenOf m b) (weightOf m)))) in
+      let z = sum-none (weightsOf m b) (λ n l. drawn-none m x r b e n (omega (arith, l, length-map (childrenOf m b) (weightOf m)))) in
       omega (arith, z, weight-bucket m L b, drawn-weighs (bucketItem b) d)
 
 -- ---- rule
@@ -320,7 +311,7 @@ module _ (m : Map) (L : Loadable m) (x : ℕ) where
       record {
         taken = t;
         filled = bucket-filled m L b (taken-bucket m L (t .0) b (t .1) (t .2));
-        weights = none-weightless m L x q b (sym e);
+        weights = drawn-none m x q b (sym e);
       }
     where
       t : Taken m b

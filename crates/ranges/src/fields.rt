@@ -22,7 +22,7 @@ pub fn device_ranged(d: Device) -> bool
 pub fn bucket_ranged(b: Bucket) -> bool
     ensures { λ r. ⌜ r ≡ bucketRanged b ⌝ }
 {
-    (b.number < Item::BUCKETS) & ((1 <= b.ty) & (b.ty <= 255))
+    (b.number < Item::BUCKETS) & ((1 <= b.ty) & (b.ty <= 255)) & ((1 <= b.kind) & (b.kind <= 2))
 }
 
 pub fn link_ranged(l: Link) -> bool

@@ -26,7 +26,7 @@ abbrev pub M : List ℕ
 M =
     line 10 0x0000000002
     ++ line 22 0x0100000000000100010000
-    ++ line 8 0x02000001
+    ++ line 10 0x0200000101
     ++ line 14 0x03000000000000
     ++ line 12 0x040100000000
     ++ line 12 0x040302000000
@@ -38,7 +38,7 @@ abbrev pub twoSelects : ℕ → ℕ → List ℕ
 twoSelects m n =
     line 10 0x0000000002
     ++ line 22 0x0100000000000100010000
-    ++ line 8 0x02000002
+    ++ line 10 0x0200000201
     ++ line 14 0x03000000000000
     ++ line 12 0x040100000000
     ++ (hex 4 0x0403 ++ hex 2 m ++ line 6 0x010000)

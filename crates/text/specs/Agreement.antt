@@ -39,7 +39,7 @@ bucket-good : (b : Bucket) → bucketRanged b ≡ true → goodFrame (bucketFram
 unfolding layouts fits
 bucket-good b e =
     let r = bucket-ranged b e in
-    frame-is-good (bucketFrame b) (lit< tt) (and-both (lt-ltb (b .number) (16 ^ 4) (omega (arith, r .number))) (and-both (lt-ltb (b .ty) (16 ^ 2) (omega (arith, r .most))) refl))
+    frame-is-good (bucketFrame b) (lit< tt) (and-both (lt-ltb (b .number) (16 ^ 4) (omega (arith, r .number))) (and-both (lt-ltb (b .ty) (16 ^ 2) (omega (arith, r .most))) (and-both (lt-ltb (b .kind) (16 ^ 2) (omega (arith, r .kinds .1))) refl)))
 
 link-good : (l : Link) → linkRanged l ≡ true → goodFrame (linkFrame l) ≡ true
 unfolding layouts fits

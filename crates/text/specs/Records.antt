@@ -26,7 +26,7 @@ noDevice = record { number = 0; weight = 0; acceptance = 0 }
 
 -- no bucket
 abbrev pub noBucket : Bucket
-noBucket = record { number = 0; ty = 0 }
+noBucket = record { number = 0; ty = 0; kind = 0 }
 
 -- no link
 abbrev pub noLink : Link
@@ -52,6 +52,7 @@ pub record DeviceAt (t : List ℕ) (p : ℕ) (d : Device) : Type 0 where
 pub record BucketAt (t : List ℕ) (p : ℕ) (b : Bucket) : Type 0 where
   pub number : value 4 (drop (p + 2) t) ≡ b .number
   pub ty : value 2 (drop (p + 6) t) ≡ b .ty
+  pub kind : value 2 (drop (p + 8) t) ≡ b .kind
   pub room : p + lineBytes 2 ≤ length t
 
 -- the line of link l starts at p
@@ -111,7 +112,7 @@ module _ (t : List ℕ) (h : Framed t) where
     unfolding mapIn layouts sum
     bucket-at k l =
         record-at 2 (bucketsStart s) k bucketIn (BucketAt t (bucketsStart s + k * lineBytes 2)) (lit< tt) (base-buckets (framesIn t) s e in-order-of) l
-        (λ f r. record { number = r .read 0 (lit< tt); ty = r .read 1 (lit< tt); room = r .room })
+        (λ f r. record { number = r .read 0 (lit< tt); ty = r .read 1 (lit< tt); kind = r .read 2 (lit< tt); room = r .room })
 
     -- link k
     pub link-at : (k : ℕ) → k < length (mapOf t .links)

@@ -1,87 +1,190 @@
 -- Document 01, "Table, edits, moves": what a fitting edit does to the draws and the acceptance tests of a group: all that tracing needs to
 -- know of an edit. Assumes nothing.
-use mathlib.Core.Path.{_≡_, refl, sym, ap, ap₂, _∙_}
+use mathlib.Core.Path.{_≡_, refl, sym, ap, ap₂, _∙_, subst}
 use mathlib.Core.Bool.{Bool, true, false, false≢true}
-use mathlib.Core.List.{map, List·Memᴰ}
+use mathlib.Core.List.{List, map}
 use mathlib.Core.Logic.{_⊎_, inl, inr, ⊎-elim}
 use Prim.Native.Nat.{ℕ, _<_}
 use native.Mathlib.Decide.{decLt}
 use native.Mathlib.Omega.{arith}
 use borrow.Author.Tests.{eqb-true}
 use lib.Dec.{leb, eqb}
-use lib.ListN.{length}
+use lib.ListN.{length, getD, length-map}
 use Rattle.definitions.specs.declared.Action.{Action}
 use Rattle.definitions.specs.declared.Action.the-variants.{Emit, Idle}
 use Rattle.definitions.specs.declared.Drawn.{Drawn}
-use Rattle.definitions.specs.declared.Drawn.the-variants.{Winner}
+use Rattle.definitions.specs.declared.Drawn.the-variants.{Winner, Nothing}
+use Rattle.definitions.specs.declared.Kind.{Kind}
+use Rattle.definitions.specs.declared.Kind.the-variants.{Straw, Tree}
 use Rattle.definitions.specs.declared.Change.{Change}
 use Rattle.definitions.specs.declared.Change.the-variants.{Acceptance, Weight, Malformed}
 use Rattle.definitions.specs.Hash.{S}
-use Rattle.definitions.specs.Straw.{drawOf}
-use Rattle.definitions.specs.Map.{Map}
-use Rattle.definitions.specs.View.{View, childrenOf, deviceWeight, weightOf, weightsOf, viewOf}
-use Rattle.definitions.specs.Walk.{drawAt, deviceAccepts, accepted}
+use Rattle.definitions.specs.Tree.{heightOf, treeOf}
+use Rattle.definitions.specs.Map.{Map, bucketItem}
+use Rattle.definitions.specs.View.{View, childrenOf, bucketKind, deviceWeight, weightOf, weightsOf, viewOf}
+use Rattle.definitions.specs.Walk.{drawBy, drawAt, deviceAccepts, accepted}
 use Rattle.definitions.specs.Edit.{put}
 use Rattle.definitions.specs.Load.{hasDevice}
 use Rattle.definitions.specs.Calls.{independent, fits}
 use Rattle.laws.specs.Lists.{both}
-use Rattle.laws.specs.Members.{map-ext}
-use Rattle.laws.specs.Loadable.{Loadable, put-type, put-children, put-actions, put-acceptance, weight-leaves-acceptance}
-use Rattle.laws.specs.Forest.{Holds, kidsOf, put-raises, put-lowers, put-weights, acceptance-leaves-weights, draw-child}
+use Rattle.laws.specs.Members.{at-mem, map-ext}
+use Rattle.laws.specs.Tree.{Fork, tree-law}
+use Rattle.laws.specs.Loadable.{Loadable, put-type, put-bucket-kind, put-children, put-actions, put-acceptance, weight-leaves-acceptance}
+use Rattle.laws.specs.Forest.{Holds, Raises, kidsOf, put-raises, put-lowers, put-weights, acceptance-leaves-weights, child-heavier, draw-child}
 use Rattle.tracing.specs.Runs.{stepAt, workingAt, steps-same, count-same}
 
--- "02, the draws differ, and the winner where the device weighs more is the child that holds or is it": of two draws in bucket b, that in
--- the old run ends in y and that in the new in z
-pub record Won (m : Map) (c : Change) (b : ℕ) (y z : Drawn) : Type 0 where
+-- the edited device, and the child of bucket b that is or holds it, told by its place
+pub record Holder (m : Map) (c : Change) (b : ℕ) : Type 0 where
   pub device : ℕ
   pub weight : ℕ
   pub edit : c ≡ Weight device weight
-  pub child : ℕ
-  pub inside : List·Memᴰ child (childrenOf m b)
-  pub holds : Holds (kidsOf m) child device
-  pub wins : ((deviceWeight m device < weight) × (z ≡ Winner child)) ⊎ ((weight < deviceWeight m device) × (y ≡ Winner child))
+  pub place : ℕ
+  pub inside : place < length (childrenOf m b)
+  pub holds : Holds (kidsOf m) (getD (childrenOf m b) place 0) device
+
+module _ (m : Map) (c : Change) (b : ℕ) (e : Holder m c b) where
+  -- the draw's winner is that child
+  abbrev pub WonBy : Drawn → Type 0
+  WonBy d = d ≡ Winner (getD (childrenOf m b) (e .place) 0)
+
+  -- this of the old run where the device weighs more there, and that of the new where it weighs more there
+  abbrev pub Heavier : Type 0 → Type 0 → Type 0
+  Heavier old new = ((e .weight < deviceWeight m (e .device)) × old) ⊎ ((deviceWeight m (e .device) < e .weight) × new)
+
+  -- the two walks of a tree's draw fork at a node above that child, and the second turns to the side that holds it
+  abbrev pub Forks : ℕ → ℕ → Map → Map → Type 0
+  Forks x r light heavy = Fork S x r (bucketItem b) (weightsOf light b) (weightsOf heavy b) (e .place) (heightOf (length (childrenOf m b))) 0
+
+-- 02: of two draws in bucket b with r', that in the old run ends in y and that in the new in z
+pub data Won (m : Map) (c : Change) (x r b : ℕ) (y z : Drawn) : Type 0 where
+  -- "the winner where the device weighs more is the child that holds or is it"
+  straw : bucketKind m b ≡ Straw → (e : Holder m c b) → Heavier m c b e (WonBy m c b e y) (WonBy m c b e z) → Won m c x r b y z
+  -- "If only one run's draw finds none, the other run's winner is or holds that drive."
+  found : bucketKind m b ≡ Tree → (e : Holder m c b) → Heavier m c b e (WonBy m c b e y × (z ≡ Nothing)) (WonBy m c b e z × (y ≡ Nothing)) → Won m c x r b y z
+  -- "In a tree, cause 02 stands where two paths first part, and the run in which the edited drive weighs more turns to the side holding it."
+  forked : bucketKind m b ≡ Tree → (y ≡ Nothing → ⊥) → (z ≡ Nothing → ⊥)
+      → (e : Holder m c b) → Heavier m c b e (Forks m c b e x r (put m c) m) (Forks m c b e x r m (put m c)) → Won m c x r b y z
+
+-- only an edit of weight does this
+pub won-edit : {m : Map} {c : Change} {x r b : ℕ} {y z : Drawn} → Won m c x r b y z → (d : ℕ) × (w : ℕ) × (c ≡ Weight d w)
+won-edit (straw k e h) = (e .device, e .weight, e .edit)
+won-edit (found k e h) = (e .device, e .weight, e .edit)
+won-edit (forked k p q e h) = (e .device, e .weight, e .edit)
+
+-- "If only one run's draw finds none, the other run's winner is or holds that drive.": in a bucket of either kind
+pub other-holds : {m : Map} {c : Change} {x r b : ℕ} {y z : Drawn} → Won m c x r b y z
+    → (y ≡ Nothing → (e : Holder m c b) × WonBy m c b e z) × (z ≡ Nothing → (e : Holder m c b) × WonBy m c b e y)
+other-holds (straw k e (inl h)) = (λ q. absurd (let z : _≡_ {A = ℕ} 0 1 = cc in omega arith), λ q. (e, h .1))
+other-holds (straw k e (inr h)) = (λ q. (e, h .1), λ q. absurd (let z : _≡_ {A = ℕ} 0 1 = cc in omega arith))
+other-holds (found k e (inl h)) = (λ q. absurd (let z : _≡_ {A = ℕ} 0 1 = cc in omega arith), λ q. (e, h .1 .0))
+other-holds (found k e (inr h)) = (λ q. (e, h .1 .0), λ q. absurd (let z : _≡_ {A = ℕ} 0 1 = cc in omega arith))
+other-holds (forked k p q e h) = (λ o. absurd (p o), λ o. absurd (q o))
 
 -- what an edit does to group x: only the edited device's acceptance test changes, after an edit of acceptance; and a draw changes only
--- after an edit of weight, and then the child that holds or is the device wins where the device weighs more
+-- after an edit of weight, and then as `Won` says
 pub record Edited (m : Map) (c : Change) (x : ℕ) : Type 0 where
   pub tests : (i : ℕ) → (accepted (viewOf m) x i ≡ accepted (viewOf (put m c)) x i) ⊎ ((a : ℕ) × (c ≡ Acceptance i a))
-  pub draws : (r b : ℕ) → (drawAt (viewOf m) x r b ≡ drawAt (viewOf (put m c)) x r b) ⊎ Won m c b (drawAt (viewOf m) x r b) (drawAt (viewOf (put m c)) x r b)
+  pub draws : (r b : ℕ) → (drawAt (viewOf m) x r b ≡ drawAt (viewOf (put m c)) x r b) ⊎ Won m c x r b (drawAt (viewOf m) x r b) (drawAt (viewOf (put m c)) x r b)
 
 module _ (m : Map) (x r b : ℕ) where
-  -- a draw by weights w of the children
-  abbrev drawBy : (ℕ → ℕ) → Drawn
-  drawBy w = drawOf S x r (childrenOf m b) (map w (childrenOf m b))
+  abbrev kids : List ℕ
+  kids = childrenOf m b
 
-  draw-old : drawAt (viewOf m) x r b ≡ drawBy (weightOf m)
+  -- a draw by weights w of the children
+  abbrev drawWith : Kind → (ℕ → ℕ) → Drawn
+  drawWith k w = drawBy k S x r (bucketItem b) kids (map w kids)
+
+  draw-old : drawAt (viewOf m) x r b ≡ drawWith (bucketKind m b) (weightOf m)
   unfolding drawAt viewOf weightsOf
   draw-old = refl
 
-  draw-new : (c : Change) → drawAt (viewOf (put m c)) x r b ≡ drawBy (weightOf (put m c))
+  draw-new : (c : Change) → drawAt (viewOf (put m c)) x r b ≡ drawWith (bucketKind m b) (weightOf (put m c))
   unfolding drawAt viewOf
-  draw-new c = ap₂ (drawOf S x r) (put-children m c b) (put-weights m c b)
+  draw-new c =
+      ap (λ (k : Kind). drawBy k S x r (bucketItem b) (childrenOf (put m c) b) (weightsOf (put m c) b)) (put-bucket-kind m c b)
+      ∙ ap₂ (drawBy (bucketKind m b) S x r (bucketItem b)) (put-children m c b) (put-weights m c b)
 
   draw-keeps : (c : Change) → ((i : ℕ) → weightOf (put m c) i ≡ weightOf m i) → drawAt (viewOf m) x r b ≡ drawAt (viewOf (put m c)) x r b
-  draw-keeps c h = draw-old ∙ sym (draw-new c ∙ ap (drawOf S x r (childrenOf m b)) (map-ext (weightOf (put m c)) (weightOf m) (childrenOf m b) (λ i k. h i)))
+  draw-keeps c h =
+      draw-old ∙ sym (draw-new c ∙ ap (drawBy (bucketKind m b) S x r (bucketItem b) kids) (map-ext (weightOf (put m c)) (weightOf m) kids (λ i k. h i)))
+
+  -- the two draws of a tree walk by these weights, and fork at a node above place p, where the second turns to its side
+  abbrev ForksAt : ℕ → (ℕ → ℕ) → (ℕ → ℕ) → Type 0
+  ForksAt p v w = Fork S x r (bucketItem b) (map v kids) (map w kids) p (heightOf (length kids)) 0
+
+  -- how two draws of a bucket of this kind differ, where only the child at place p weighs more by w than by v
+  data Differ (p : ℕ) (v w : ℕ → ℕ) : Kind → Type 0 where
+    in-straw : drawWith Straw w ≡ Winner (getD kids p 0) → Differ p v w Straw
+    one-finds : drawWith Tree v ≡ Nothing → drawWith Tree w ≡ Winner (getD kids p 0) → Differ p v w Tree
+    both-find : (drawWith Tree v ≡ Nothing → ⊥) → (drawWith Tree w ≡ Nothing → ⊥) → ForksAt p v w → Differ p v w Tree
+
+  module _ (L : Loadable m) (d : ℕ) (v w : ℕ → ℕ) (R : Raises (kidsOf m) d v w) where
+    draws-differ : (k : Kind) → (drawWith k v ≡ drawWith k w) ⊎ ((p : ℕ) × (p < length kids) × Holds (kidsOf m) (getD kids p 0) d × Differ p v w k)
+    unfolding drawBy
+    draws-differ Straw =
+        ⊎-elim (λ e. inl e)
+        (λ t.
+        let (i, k, g, e) = t in
+        let (p, s, q) = at-mem 0 k in
+        inr (p, s, rw q g, in-straw (e ∙ ap Winner (sym q))))
+        (draw-child m L d v w R S x r b)
+    draws-differ Tree =
+        ⊎-elim (λ e. inl (ap (λ (ws : List ℕ). treeOf S x r (bucketItem b) ws kids) e))
+        (λ h.
+        ⊎-elim (λ e. inl e)
+        (λ t. inr (h .place, h .inside, h .holds, ⊎-elim (λ o. one-finds (o .0) (o .1)) (λ o. both-find (o .0) (o .1) (o .2)) t))
+        (tree-law S x r (bucketItem b) (map v kids) (map w kids) (h .place) (h .by) (h .only) (h .more) kids (length-map kids v) (length-map kids w) (h .inside)))
+        (child-heavier m L d v w R b)
 
   module _ (L : Loadable m) (d w : ℕ) (h : hasDevice m d ≡ true) where
+    abbrev c : Change
+    c = Weight d w
+
+    abbrev y : Drawn
+    y = drawAt (viewOf m) x r b
+
+    abbrev z : Drawn
+    z = drawAt (viewOf (put m c)) x r b
+
     abbrev Claim : Type 0
-    Claim =
-        (drawAt (viewOf m) x r b ≡ drawAt (viewOf (put m (Weight d w))) x r b)
-        ⊎ Won m (Weight d w) b (drawAt (viewOf m) x r b) (drawAt (viewOf (put m (Weight d w))) x r b)
+    Claim = (y ≡ z) ⊎ Won m c x r b y z
+
+    abbrev holder : (p : ℕ) → p < length kids → Holds (kidsOf m) (getD kids p 0) d → Holder m c b
+    holder p s g = record { device = d; weight = w; edit = refl; place = p; inside = s; holds = g }
+
+    old-is : (k : Kind) → bucketKind m b ≡ k → y ≡ drawWith k (weightOf m)
+    old-is k e = draw-old ∙ ap (λ (o : Kind). drawWith o (weightOf m)) e
+
+    new-is : (k : Kind) → bucketKind m b ≡ k → z ≡ drawWith k (weightOf (put m c))
+    new-is k e = draw-new c ∙ ap (λ (o : Kind). drawWith o (weightOf (put m c))) e
+
+    raised-won : (p : ℕ) (s : p < length kids) (g : Holds (kidsOf m) (getD kids p 0) d) → deviceWeight m d < w → (k : Kind) → bucketKind m b ≡ k
+        → Differ p (weightOf m) (weightOf (put m c)) k → Won m c x r b y z
+    unfolding weightsOf
+    raised-won p s g l Straw k (in-straw e) = straw k (holder p s g) (inr (l, new-is Straw k ∙ e))
+    raised-won p s g l Tree k (one-finds e f) = found k (holder p s g) (inr (l, (new-is Tree k ∙ f, old-is Tree k ∙ e)))
+    raised-won p s g l Tree k (both-find e f F) =
+        forked k (λ q. e (sym (old-is Tree k) ∙ q)) (λ q. f (sym (new-is Tree k) ∙ q)) (holder p s g)
+        (inr (l, subst (λ (ws : List ℕ). Fork S x r (bucketItem b) (weightsOf m b) ws p (heightOf (length kids)) 0) (sym (put-weights m c b)) F))
+
+    lowered-won : (p : ℕ) (s : p < length kids) (g : Holds (kidsOf m) (getD kids p 0) d) → w < deviceWeight m d → (k : Kind) → bucketKind m b ≡ k
+        → Differ p (weightOf (put m c)) (weightOf m) k → Won m c x r b y z
+    unfolding weightsOf
+    lowered-won p s g l Straw k (in-straw e) = straw k (holder p s g) (inl (l, old-is Straw k ∙ e))
+    lowered-won p s g l Tree k (one-finds e f) = found k (holder p s g) (inl (l, (old-is Tree k ∙ f, new-is Tree k ∙ e)))
+    lowered-won p s g l Tree k (both-find e f F) =
+        forked k (λ q. f (sym (old-is Tree k) ∙ q)) (λ q. e (sym (new-is Tree k) ∙ q)) (holder p s g)
+        (inl (l, subst (λ (ws : List ℕ). Fork S x r (bucketItem b) ws (weightsOf m b) p (heightOf (length kids)) 0) (sym (put-weights m c b)) F))
 
     draw-raised : deviceWeight m d < w → Claim
     draw-raised l =
-        ⊎-elim (λ e. inl (draw-old ∙ e ∙ sym (draw-new (Weight d w))))
-        (λ t. let (i, k, g, e) = t in
-        inr (record { device = d; weight = w; edit = refl; child = i; inside = k; holds = g; wins = inl (l, draw-new (Weight d w) ∙ e) }))
-        (draw-child m L d (weightOf m) (weightOf (put m (Weight d w))) (put-raises m d w h L (omega arith)) S x r b)
+        ⊎-elim (λ e. inl (draw-old ∙ e ∙ sym (draw-new c))) (λ t. let (p, s, g, D) = t in inr (raised-won p s g l (bucketKind m b) refl D))
+        (draws-differ L d (weightOf m) (weightOf (put m c)) (put-raises m d w h L (omega arith)) (bucketKind m b))
 
     draw-lowered : w < deviceWeight m d → Claim
     draw-lowered l =
-        ⊎-elim (λ e. inl (draw-old ∙ sym e ∙ sym (draw-new (Weight d w))))
-        (λ t. let (i, k, g, e) = t in
-        inr (record { device = d; weight = w; edit = refl; child = i; inside = k; holds = g; wins = inr (l, draw-old ∙ e) }))
-        (draw-child m L d (weightOf (put m (Weight d w))) (weightOf m) (put-lowers m d w h L (omega arith)) S x r b)
+        ⊎-elim (λ e. inl (draw-old ∙ sym e ∙ sym (draw-new c))) (λ t. let (p, s, g, D) = t in inr (lowered-won p s g l (bucketKind m b) refl D))
+        (draws-differ L d (weightOf (put m c)) (weightOf m) (put-lowers m d w h L (omega arith)) (bucketKind m b))
 
     draw-even : deviceWeight m d ≡ w → Claim
     draw-even e =

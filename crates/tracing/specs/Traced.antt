@@ -31,7 +31,7 @@ use Rattle.definitions.specs.Calls.{notFirstN, independent, fits}
 use Rattle.laws.specs.Loadable.{Loadable}
 use Rattle.tracing.specs.Runs.{leaves, noRank, rankUnder, stepAt, workingAt, placeAt, working-take, step-place, place-stays, place-past, held-at, not-held, independent-at}
 use Rattle.tracing.specs.Parting.{At, Apart, draws, tests, held, Parts, rank-parts}
-use Rattle.tracing.specs.Edited.{Won, Edited, edited, put-types, put-step, put-stays, put-count}
+use Rattle.tracing.specs.Edited.{Won, won-edit, Edited, edited, put-types, put-step, put-stays, put-count}
 
 -- an edit c of map m, and the group x
 module _ (m : Map) (c : Change) (x : ℕ) where
@@ -66,8 +66,9 @@ module _ (m : Map) (c : Change) (x : ℕ) where
     -- 01: after an edit of its acceptance, device d passed acceptance in one run only
     accept : {k p n d a : ℕ} {u w : Verdict} → c ≡ Acceptance d a → Here k p n (Tested d u) (Tested d w)
         → ((u ≡ Passed) × (w ≡ Rejected)) ⊎ ((u ≡ Rejected) × (w ≡ Passed)) → Traced (suc k) p 1
-    -- 02: after an edit of weight, the draws differ, and the winner where the device weighs more is the child that is or holds it
-    drawn : {k p n b r : ℕ} {y z : Drawn} → Here k p n (Drew b r y) (Drew b r z) → (y ≡ z → ⊥) → Won m c b y z → Traced (suc k) p 2
+    -- 02: after an edit of weight, the draws differ, as `Won` says: in a straw bucket the winner where the device weighs more is the child
+    -- that is or holds it; in a tree that run turns to its side, or alone finds a child
+    drawn : {k p n b r : ℕ} {y z : Drawn} → Here k p n (Drew b r y) (Drew b r z) → (y ≡ z → ⊥) → Won m c x r b y z → Traced (suc k) p 2
     -- 03: the item was held in the old run only: an earlier place q of this select holds it there, none holds it in the new run, and the
     -- cause of q is traced
     held-old : {k p n q i cause : ℕ} {w : Verdict} → Here k p n (Tested i Held) (Tested i w) → (w ≡ Held → ⊥)
@@ -283,6 +284,6 @@ module _ (m : Map) (c : Change) (x : ℕ) where
   drawn-only (above e lv t) q = drawn-only t q
   drawn-only (stays e t) q = drawn-only t q
   drawn-only (accept e h w) q = absurd (omega arith)
-  drawn-only (drawn h f w) q = (w .device, w .weight, w .edit)
+  drawn-only (drawn h f w) q = won-edit w
   drawn-only (held-old h f l a b t) q = absurd (omega arith)
   drawn-only (held-new h f l a b t) q = absurd (omega arith)

@@ -1,12 +1,18 @@
--- `compile::values_of` meets its contract: the children's weights and the acceptances, laid into the values, give the map's view with its
+-- `compile::values_of` meets its contract: the children's weights, a tree's as sums, and the acceptances, laid into the values, give the map's view with its
 -- plan. Assumes nothing.
+use mathlib.Core.Path.{_∙_}
 use borrow.Author.Needs.{needs}
-use Rattle.compile.specs.Compiled.{view-is}
+use Rattle.compile.specs.Compiled.{parts-are, view-is}
 use Rattle.compile.proofs.values_of.Statement.{statement}
 use Rattle.compile.proofs.values_of.Tie as tie
 
 weigh-children-requires : tie.Need-weigh-children-requires
 weigh-children-requires c κs = search needs
+
+words-of-requires : tie.Need-words-of-requires
+words-of-requires c κs =
+    let w = c .before .pre .1 in
+    parts-are (c .before .pre .0) (w .loadable) (w .planned) (c .weigh-children .result) (c .weigh-children .ensures (c .before .pre .0) w)
 
 values-of-requires : tie.Need-values-of-requires
 values-of-requires c κs = search needs
@@ -14,7 +20,8 @@ values-of-requires c κs = search needs
 returns : tie.Need-returns
 returns c m w a =
     let o = c .values-of .ensures in
-    view-is m (w .loadable) (w .planned) _ (rw (o .0) a) (rw (o .1) (c .before .before .weigh-children .ensures m w))
+    let s = c .before .before in
+    view-is m (w .loadable) (w .planned) _ (rw (o .0) a) (λ b. rw (o .1) (s .words-of .ensures b ∙ rw (s .before .weigh-children .ensures m w b)))
 
 pub values-of-spec : {M : Type 1} → statement M
-values-of-spec = tie.close (tie.spec weigh-children-requires values-of-requires returns)
+values-of-spec = tie.close (tie.spec weigh-children-requires words-of-requires values-of-requires returns)

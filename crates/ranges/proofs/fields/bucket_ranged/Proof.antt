@@ -7,7 +7,7 @@ use Rattle.ranges.proofs.fields.bucket_ranged.Tie as tie
 
 returns : tie.Need-returns
 unfolding bucketRanged
-returns c = rw (leb·suc-suc (c .before .before .before .args .b .number) 255) refl
+returns c = rw (leb·suc-suc (c .before .before .before .before .before .args .b .number) 255) refl
 
 pub bucket-ranged-spec : {M : Type 1} → statement M
 bucket-ranged-spec = tie.close (tie.spec returns)

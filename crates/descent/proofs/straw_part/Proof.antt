@@ -1,8 +1,8 @@
--- `descent::draw_part` meets its contract: the parts that are lent to the draw are the children's. Assumes nothing.
+-- `descent::straw_part` meets its contract: the parts that are lent to the draw are the children's. Assumes nothing.
 use borrow.Author.Needs.{needs}
 use native.Mathlib.Nat.{add-sub-cancel-left}
-use Rattle.descent.proofs.draw_part.Statement.{statement}
-use Rattle.descent.proofs.draw_part.Tie as tie
+use Rattle.descent.proofs.straw_part.Statement.{statement}
+use Rattle.descent.proofs.straw_part.Tie as tie
 
 add-e : tie.Need-add-e
 add-e c = search needs
@@ -37,8 +37,8 @@ draw-requires c κs = search needs
 returns : tie.Need-returns
 returns c = rw add-sub-cancel-left at (c .draw .ensures)
 
-pub draw-part-spec : {M : Type 1} → statement M
-draw-part-spec =
+pub straw-part-spec : {M : Type 1} → statement M
+straw-part-spec =
     tie.close
     (tie.spec
     add-e
