@@ -33,10 +33,13 @@ static double now(void) {
     return (double)t.tv_sec * 1e9 + (double)t.tv_nsec;
 }
 
-/* Of the maps, the lines of drives: an edit alters no other, and the others may be of two forms. */
+/* Maps of two forms differ in other lines than those of drives, and an edit alters no others. */
+static int same_maps(void) {
+    return len[0] == len[1] ? memcmp(map[0], map[1], len[0]) == 0 : memcmp(map[0] + FIRST, map[1] + FIRST, drives) == 0;
+}
+
 static void expect_same(const char *what) {
-    if (memcmp(map[0] + FIRST, map[1] + FIRST, drives) == 0 && memcmp(table[0], table[1], sizeof table[0]) == 0 &&
-        memcmp(space[0], space[1], SPACE) == 0)
+    if (same_maps() && memcmp(table[0], table[1], sizeof table[0]) == 0 && memcmp(space[0], space[1], SPACE) == 0)
         return;
     fprintf(stderr, "unequal: %s\n", what);
     exit(1);

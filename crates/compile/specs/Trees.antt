@@ -12,15 +12,15 @@ use native.Mathlib.Numerals.{add-one}
 use borrow.Author.Tests.{lt-ltb, le-ltb, eq-eqb, ne-eqb}
 use lib.Dec.{ltb}
 use lib.Pow.{pow-pos}
-use lib.ListN.{length, getD, take, drop, set, length-set, length-take, length-drop}
-use lib.Seq.{getD-take, getD-drop, take-all, take-take, getD-set-same, getD-set-other, ext-getD}
+use lib.ListN.{length, getD, take, drop, set, length-set}
+use lib.Seq.{getD-drop, take-all, take-take, getD-set-same, getD-set-other, ext-getD}
 use Rattle.definitions.specs.declared.Kind.{Kind}
 use Rattle.definitions.specs.declared.Kind.the-variants.{Straw, Tree}
 use Rattle.definitions.specs.Lists.{sum}
 use Rattle.definitions.specs.Tree.{heightOf}
 use Rattle.laws.specs.Tree.{height-room}
 use Rattle.hierarchy.specs.Sums.{firstOf, before, leafWeight, totalIn, weightsFrom, weightsBy, firstOf-length, firstOf-at}
-use Rattle.hierarchy.specs.Sections.{section-at, section-front, section-beyond}
+use Rattle.hierarchy.specs.Sections.{section, section-length, section-at, section-front, section-beyond}
 use Rattle.hierarchy.specs.Arrays.{countAt, kindsAt, firstsIn, countsIn, firstIn, countIn, kindIn, partAt}
 
 -- what the first i weigh together
@@ -179,34 +179,29 @@ pub record Parts (plan words : List ℕ) : Type 0 where
   pub apart : (b c i : ℕ) → firstIn plan b ≤ i → i < firstIn plan b + countIn plan b → firstIn plan c ≤ i → i < firstIn plan c + countIn plan c → b ≡ c
   pub fits : (b : ℕ) → sum (partIn plan b words) < 2 ^ 32
 
--- how a place of a part is read
-part-long : (a n : ℕ) (xs : List ℕ) → a + n ≤ length xs → length (take n (drop a xs)) ≡ n
-part-long a n xs h = omega (arith, length-take n (drop a xs), length-drop a xs)
-
-part-at : (a n j : ℕ) (xs : List ℕ) → j < n → getD (take n (drop a xs)) j 0 ≡ getD xs (a + j) 0
-part-at a n j xs h = getD-take n (drop a xs) j 0 h ∙ getD-drop a xs j 0
-
 -- parts with the same words
 same-part : (a n : ℕ) (xs zs : List ℕ) → a + n ≤ length xs → length zs ≡ length xs → ((j : ℕ) → j < n → getD zs (a + j) 0 ≡ getD xs (a + j) 0)
     → take n (drop a zs) ≡ take n (drop a xs)
+unfolding section
 same-part a n xs zs h l e =
-    let p = part-long a n zs (omega (arith, h, l)) in
-    ext-getD 0 (take n (drop a zs)) (take n (drop a xs)) (p ∙ sym (part-long a n xs h))
-    (λ j k. let i : j < n = omega (arith, k, p) in part-at a n j zs i ∙ e j i ∙ sym (part-at a n j xs i))
+    let p = section-length a n zs (omega (arith, h, l)) in
+    ext-getD 0 (section a n zs) (section a n xs) (p ∙ sym (section-length a n xs h))
+    (λ j k. let i : j < n = omega (arith, k, p) in section-at a n j zs i ∙ e j i ∙ sym (section-at a n j xs i))
 
 -- a part that is summed
 take-part : (j n : ℕ) (ys : List ℕ) → j ≤ n → sumTo (take n ys) j ≡ sumTo ys j
 take-part j n ys h = ap sum (take-take j n ys h)
 
 summed-part : (a n : ℕ) (xs zs : List ℕ) → a + n ≤ length xs → Summed a n xs zs → take n (drop a zs) ≡ sumsOf (take n (drop a xs))
+unfolding section
 summed-part a n xs zs h s =
-    let ws = take n (drop a xs) in
-    let p = part-long a n zs (omega (arith, h, s .long)) in
-    let q = part-long a n xs h in
-    ext-getD 0 (take n (drop a zs)) (sumsOf ws) (p ∙ sym q ∙ sym (sums-long ws))
+    let ws = section a n xs in
+    let p = section-length a n zs (omega (arith, h, s .long)) in
+    let q = section-length a n xs h in
+    ext-getD 0 (section a n zs) (sumsOf ws) (p ∙ sym q ∙ sym (sums-long ws))
     (λ j k.
     let i : j < n = omega (arith, k, p) in
-    part-at a n j zs i ∙ s .here j i ∙ sym (take-part (suc j) n (drop a xs) (omega arith)) ∙ sym (sums-at ws j (omega (arith, i, q))))
+    section-at a n j zs i ∙ s .here j i ∙ sym (take-part (suc j) n (drop a xs) (omega arith)) ∙ sym (sums-at ws j (omega (arith, i, q))))
 
 -- the words of the first k buckets are laid
 pub record LaidTo (plan words zs : List ℕ) (k : ℕ) : Type 0 where

@@ -54,7 +54,7 @@ fn tree_part(plan: &[u32], values: &[u32], q: Asked, a: usize, n: usize) -> Draw
     tree::draw(q, &plan[a..e], &values[a..e])
 }
 
-// The draw at bucket b. Nothing else asks of which kind a bucket is.
+// The draw at bucket b. In placing, nothing else asks of which kind a bucket is.
 pub fn draw_at<'a>(plan: &'a Plan, values: &'a Values, x: u32, r: u32, b: u32) -> Drawn
     requires { ⌜ Sound (now plan) × (b < 256) ⌝ }
     ensures { λ d. ⌜ d ≡ drawAt (viewIn (now (plan .entry)) (now (values .entry))) x r b ⌝ }

@@ -51,6 +51,13 @@ grows-end n span g h =
     let e : g .height ≡ heightOf n = omega (arith, l, g .most) in
     g .is ∙ ap (λ (j : ℕ). 2 ^ j) e
 
+-- where the leaves on the two sides of node k begin
+begins-left : (j k : ℕ) → k * 2 ^ suc j ≡ 2 * k * 2 ^ j
+begins-left j k = omega (arith, ap (λ (p : ℕ). k * p) (pow-suc 2 j))
+
+begins-right : (j k : ℕ) → k * 2 ^ suc j + 2 ^ j ≡ (2 * k + 1) * 2 ^ j
+begins-right j k = omega (arith, ap (λ (p : ℕ). k * p) (pow-suc 2 j))
+
 -- ---- weights
 
 module _ (sums : List ℕ) where
@@ -125,13 +132,6 @@ module _ (sums : List ℕ) where
 
     right-under : Under j (a + 2 ^ j) (before sums (a + 2 ^ j) lo hi) hi
     right-under i h l = u i (omega arith) (omega (arith, l, pow-suc 2 j)) ∙ leaf-right j a lo hi i h
-
-  -- where the sides of node k begin
-  begins-left : (j k : ℕ) → k * 2 ^ suc j ≡ 2 * k * 2 ^ j
-  begins-left j k = omega (arith, ap (λ (p : ℕ). k * p) (pow-suc 2 j))
-
-  begins-right : (j k : ℕ) → k * 2 ^ suc j + 2 ^ j ≡ (2 * k + 1) * 2 ^ j
-  begins-right j k = omega (arith, ap (λ (p : ℕ). k * p) (pow-suc 2 j))
 
   -- a node weighs what is before its end less what is before it
   node-weighs : (j k a lo hi : ℕ) → a ≡ k * 2 ^ j → lo ≤ hi → Under j a lo hi → nodeWeight weights j k ≡ hi - lo
@@ -233,7 +233,7 @@ module _ (seed x r item : ℕ) (sums : List ℕ) where
       rw (
         e,
         ← node-weighs sums (suc j) k a lo hi refl h u,
-        ← node-weighs sums j (2 * k) a lo (before sums (a + 2 ^ j) lo hi) (begins-left sums j k) p (left-under sums j a lo hi u),
+        ← node-weighs sums j (2 * k) a lo (before sums (a + 2 ^ j) lo hi) (begins-left j k) p (left-under sums j a lo hi u),
       )
 
   -- one turn more
@@ -277,7 +277,7 @@ module _ (seed x r item : ℕ) (sums : List ℕ) where
                 labelled = omega (arith, q, double, pow-suc 2 j);
                 ends = omega (arith, v, pow-suc 2 j);
                 rises = between .0;
-                under = subst (λ (i : ℕ). Under sums j i (n .lo) mid) (begins-left sums j k) (left-under sums j a (n .lo) (n .hi) u);
+                under = subst (λ (i : ℕ). Under sums j i (n .lo) mid) (begins-left j k) (left-under sums j a (n .lo) (n .hi) u);
                 leads = m;
               }
           by false m =
@@ -288,7 +288,7 @@ module _ (seed x r item : ℕ) (sums : List ℕ) where
                 labelled = omega (arith, q, double, pow-suc 2 j);
                 ends = omega (arith, v, pow-suc 2 j);
                 rises = between .1;
-                under = subst (λ (i : ℕ). Under sums j i mid (n .hi)) (begins-right sums j k) (right-under sums j a (n .lo) (n .hi) u);
+                under = subst (λ (i : ℕ). Under sums j i mid (n .hi)) (begins-right j k) (right-under sums j a (n .lo) (n .hi) u);
                 leads = m;
               }
 
