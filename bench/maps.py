@@ -19,9 +19,10 @@ def text_of(groups, devices, buckets, links, steps):
     return "".join(line + "\n" for line in lines)
 
 
-def nested(groups, counts, weight=lambda n: 4096, acceptance=lambda n: FULL, copies=3, through=False, kind=STRAW):
+def nested(groups, counts, weight=lambda n: 4096, acceptance=lambda n: FULL, copies=3, through=False, kind=STRAW, more=0):
     """Buckets in buckets, so many in each by level, at the last level drives; the copies lie in different buckets below the root, or with
-    through in different buckets of drives. The buckets of drives are of the kind, all others straws."""
+    through in different buckets of drives; with more, a second block has so many anywhere. The buckets of drives are of the kind, all others
+    straws."""
     devices, buckets, links = [], [], []
 
     def bucket(level):
@@ -39,7 +40,10 @@ def nested(groups, counts, weight=lambda n: 4096, acceptance=lambda n: FULL, cop
 
     bucket(0)
     selects = [(THROUGH, copies, 1, 0)] if through else [(INDEPENDENT, copies, len(counts) - 1, 0), (INDEPENDENT, 1, 0, 0)]
-    return text_of(groups, devices, buckets, links, [(TAKE, 0, 0, 0), *selects, (EMIT, 0, 0, 0)])
+    steps = [(TAKE, 0, 0, 0), *selects, (EMIT, 0, 0, 0)]
+    if more:
+        steps += [(TAKE, 0, 0, 0), (INDEPENDENT, more, 0, 0), (EMIT, 0, 0, 0)]
+    return text_of(groups, devices, buckets, links, steps)
 
 
 def shelves(groups, count, kind, drives=64):
@@ -78,6 +82,9 @@ COMPARED = [
     ("dead", "the same, 4 of the 64 cabinets dead", lambda: nested(1024, (4, 16, 16), acceptance=dead, through=True)),
     ("archive", "examples/archive.map", ARCHIVE.read_text),
 ]
+
+# not against a build from before change 5, which gives other lists: the drive that the second block draws first is always held
+BLOCKS = ("blocks", "4 x 16 x 16, and a copy more anywhere", lambda: nested(1024, (4, 16, 16), more=1))
 
 # one draw among 64 children: the number of draws that a fill makes, and a map for each kind of bucket. A tree of one child makes no hash, so
 # that its fill is what all but the draws takes

@@ -46,7 +46,7 @@ def main():
     ratios = [["plain C / engine", "load", "place", "fill", "fill*", "edit 21", "edit 22", "hash"]]
     times = [["the engine's own times", "load", "place", "fill", "edit 21", "edit 22", "hash"]]
     fills = [["edit / fill in the engine", "edit 21", "edit 22", "moves 21", "moves 22"]]
-    for name, title, text in maps.COMPARED:
+    for name, title, text in [*maps.COMPARED, maps.BLOCKS]:
         got = run(folder, ["bench", "all"], name, text(), rounds)
         columns = [got[call] for call in ("load", "place", "fill", "acceptance", "weight", "hash")]
         ratios.append([title] + [ratio(pair) for pair in columns])

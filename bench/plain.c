@@ -1,4 +1,4 @@
-/* Document 01, with changes 1 to 4 of document 02, in plain C, sentence by sentence: what the engine is measured against. */
+/* Document 01, with changes 1 to 5 of document 02, in plain C, sentence by sentence: what the engine is measured against. */
 #include "plain.h"
 
 #include <stdlib.h>
@@ -492,9 +492,23 @@ static int64_t draw(const struct map *m, uint32_t item, uint32_t x, uint32_t r) 
 
 /* ---- walk, select and rule */
 
+/* A group being placed, and what the blocks so far have emitted of its row. */
+struct run {
+    uint32_t group, emitted, tries;
+    uint16_t *row;
+};
+
 static int holds(const uint32_t *list, uint32_t n, uint32_t item) {
     for (uint32_t i = 0; i < n; i++)
         if (list[i] == item)
+            return 1;
+    return 0;
+}
+
+/* "a device that an earlier block has emitted": a bucket's item number is above all that a row has. */
+static int was_emitted(const struct run *run, uint32_t item) {
+    for (uint32_t i = 0; i < run->emitted; i++)
+        if (run->row[i] == item)
             return 1;
     return 0;
 }
@@ -505,28 +519,41 @@ static int accepts(const struct map *m, uint32_t x, uint32_t item) {
     return m->acceptance[item] != 0 && hash2(x, item) % 65536 < m->acceptance[item];
 }
 
+/* Draws from a bucket down to an item whose type is not above the wanted one: that item, or -1 for none; at is the bucket of the last draw. */
+static int64_t descend(const struct map *m, uint32_t *at, uint32_t x, uint32_t r, uint32_t type) {
+    for (;;) {
+        int64_t item = draw(m, *at, x, r);
+        if (item < 0 || type_of(m, (uint32_t)item) <= type)
+            return item;
+        *at = (uint32_t)item;
+    }
+}
+
 /* "an independent inner walk looks for one device beneath it": the device, or HOLE; r is the r' that drew the item. */
-static uint32_t find_beneath(const struct map *m, uint32_t x, uint32_t count, uint32_t item, uint32_t r, uint32_t *tries) {
-    for (uint32_t failures = 0; failures < TRIES; failures++) {
-        int64_t at = item;
-        while (at >= BASE)
-            at = draw(m, (uint32_t)at, x, r + failures * count);
-        *tries += 1;
-        if (at >= 0 && accepts(m, x, (uint32_t)at))
-            return (uint32_t)at;
+static uint32_t find_beneath(const struct map *m, struct run *run, uint32_t count, uint32_t item, uint32_t r) {
+    uint32_t at = item;
+    for (uint32_t failures = 0; failures < TRIES;) {
+        int64_t device = descend(m, &at, run->group, r + failures * count, 0);
+        int held = device >= 0 && was_emitted(run, (uint32_t)device);
+        run->tries++;
+        if (device >= 0 && !held && accepts(m, run->group, (uint32_t)device))
+            return (uint32_t)device;
+        failures++;
+        if (!held || failures >= 3)
+            at = item;
     }
     return HOLE;
 }
 
-/* What the select puts out for an item that it does not hold, or HOLE where the test fails. */
-static uint32_t tested(const struct map *m, uint32_t x, const struct step *s, uint32_t item, uint32_t r, uint32_t *tries) {
+/* What the select puts out for an item that is not held, or HOLE where the test fails. */
+static uint32_t tested(const struct map *m, struct run *run, const struct step *s, uint32_t item, uint32_t r) {
     if (s->step == THROUGH)
-        return find_beneath(m, x, s->count, item, r, tries);
-    return accepts(m, x, item) ? item : HOLE;
+        return find_beneath(m, run, s->count, item, r);
+    return accepts(m, run->group, item) ? item : HOLE;
 }
 
 /* Runs a select over the working list and leaves what it puts out there. */
-static uint32_t select_items(const struct map *m, uint32_t x, const struct step *s, uint32_t *list, uint32_t count, uint32_t *tries) {
+static uint32_t select_items(const struct map *m, struct run *run, const struct step *s, uint32_t *list, uint32_t count) {
     uint32_t items[PLACES], out[PLACES], n = 0; /* what it holds, and what it puts out */
     for (uint32_t i = 0; i < count; i++) {
         uint32_t f = 0, start = list[i];
@@ -542,16 +569,12 @@ static uint32_t select_items(const struct map *m, uint32_t x, const struct step 
             for (;;) {
                 uint32_t attempt = s->step == FIRST_N ? r + f : r + fr * s->count;
                 int held = 0;
-                int64_t item = draw(m, at, x, attempt);
-                while (item >= 0 && type_of(m, (uint32_t)item) > s->type) {
-                    at = (uint32_t)item;
-                    item = draw(m, at, x, attempt);
-                }
+                int64_t item = descend(m, &at, run->group, attempt, s->type);
                 if (item >= 0 && type_of(m, (uint32_t)item) == s->type) {
-                    held = holds(items, n, (uint32_t)item);
-                    uint32_t found = held ? HOLE : tested(m, x, s, (uint32_t)item, attempt, tries);
+                    held = holds(items, n, (uint32_t)item) || was_emitted(run, (uint32_t)item);
+                    uint32_t found = held ? HOLE : tested(m, run, s, (uint32_t)item, attempt);
                     if (found != HOLE) {
-                        *tries += 1;
+                        run->tries++;
                         items[n] = (uint32_t)item;
                         out[n++] = found;
                         break;
@@ -559,7 +582,7 @@ static uint32_t select_items(const struct map *m, uint32_t x, const struct step 
                 }
                 fr++;
                 f++;
-                *tries += 1;
+                run->tries++;
                 if (fr == TRIES) {
                     if (s->step != FIRST_N) {
                         items[n] = HOLE;
@@ -578,7 +601,8 @@ static uint32_t select_items(const struct map *m, uint32_t x, const struct step 
 
 /* The W places of group x; answers the tries. */
 static uint32_t place_row(const struct map *m, uint32_t x, uint16_t *row) {
-    uint32_t list[PLACES], count = 0, tries = 0, n = 0;
+    struct run run = {x, 0, 0, row};
+    uint32_t list[PLACES], count = 0;
     for (uint32_t i = 0; i < m->steps; i++) {
         const struct step *s = &m->rule[i];
         if (s->step == TAKE) {
@@ -586,14 +610,14 @@ static uint32_t place_row(const struct map *m, uint32_t x, uint16_t *row) {
             count = 1;
         } else if (s->step == EMIT) {
             for (uint32_t k = 0; k < count; k++)
-                row[n++] = (uint16_t)list[k];
+                row[run.emitted++] = (uint16_t)list[k];
         } else {
-            count = select_items(m, x, s, list, count, &tries);
+            count = select_items(m, &run, s, list, count);
         }
     }
-    while (n < m->width)
-        row[n++] = HOLE;
-    return tries;
+    for (uint32_t i = run.emitted; i < m->width; i++)
+        row[i] = HOLE;
+    return run.tries;
 }
 
 static void fill_rows(const struct map *m, uint16_t *table) {

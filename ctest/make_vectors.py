@@ -12,17 +12,19 @@ lines of each map and behind them its calls (place, fill and edit), each with ho
 acceptance other than 65,536 and 0.
 """
 import argparse
+import os
 import random
 import sys
 from unittest import mock
 
 ap = argparse.ArgumentParser()
 ap.add_argument('--oracle', required=True)
-ap.add_argument('--level', type=int, default=4)
+ap.add_argument('--level', type=int, default=5)
 ap.add_argument('--days', action='store_true')
 ap.add_argument('--hashes', action='store_true')
 ARGS = ap.parse_args()
-sys.path.insert(0, ARGS.oracle)
+sys.path[:0] = [ARGS.oracle, os.path.join(os.path.dirname(os.path.abspath(__file__)), '..', 'tools')]
+import blocks  # noqa: E402
 import crush  # noqa: E402
 import fill   # noqa: E402
 import gen    # noqa: E402
@@ -67,9 +69,18 @@ def trees():
             place(doc.bytes(), rng.randrange(8), 4)
 
 
+def sharing(count, groups):
+    """The bytes of maps with blocks over common drives; none before change 5."""
+    return [blocks.altered(crush, gen, random.Random(f'blocks:{i}'), i, 3, groups)[0].bytes()
+            for i in range(count if ARGS.level >= crush.ONE_PLACE else 0)]
+
+
 def places():
     extremes()
     trees()
+    for data in sharing(60, 4):
+        for group in range(2):
+            place(data, group, 64)
     for i, data, mp in maps(50, 6000):
         if isinstance(mp, int):
             place(data, 0, 64)
@@ -125,10 +136,10 @@ def hashes_of(rng, data):
 
 def hashes():
     rng = random.Random(3)
-    for _, data, mp in maps(60, 1500):
-        if not isinstance(mp, int) and mp.G * mp.W <= 60:
-            hashes_of(rng, accepting(rng, data, (65536, 65536, 0)))
-            hashes_of(rng, accepting(rng, data, (65536, 65536, 65536, 0, 1, 32768, 65535)))
+    small = [data for _, data, mp in maps(60, 1500) if not isinstance(mp, int) and mp.G * mp.W <= 60]
+    for data in [*small, *sharing(24, 2)]:
+        hashes_of(rng, accepting(rng, data, (65536, 65536, 0)))
+        hashes_of(rng, accepting(rng, data, (65536, 65536, 65536, 0, 1, 32768, 65535)))
 
 
 hashes() if ARGS.hashes else days() if ARGS.days else places()

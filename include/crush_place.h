@@ -24,7 +24,7 @@ struct crush_placing {
 
 /*
  * Writes the list of a group over the front of a space: each place is two bytes, high byte first, the number of a drive (0 to 1023) or 0xffff for
- * a hole.
+ * a hole. No drive stands in it twice.
  *
  *   map      the map's frames: lines of hexadecimal digits, each ended by a newline. It is only read, and its length alone ends it: no byte 0 is
  *            looked for.

@@ -2,8 +2,8 @@
 """Evaluates the definitions (crates/definitions) against a CRUSH in Python by another hand.
 
 usage: evaluate_definitions.py --oracle DIR [--level L] [--seed N] [--maps N] [--edits N] [--damaged N] [--walks N]
-                [--leaves N] [--ties N] [--through N] [--trees N] [--keys N]
-                [--per N]
+                [--leaves N] [--ties N] [--through N] [--trees N]
+                [--blocks N] [--keys N] [--per N]
                 [--crate DIR] [--keep] [--wrong] [--verbose] [--giving-up]
 
 DIR holds the reference: crush.py, fill.py and gen.py.
@@ -29,6 +29,9 @@ them, in a scratch repository outside this one.  Prints how many held.
              the height, the labels and the weights of the nodes on the way; for
              every fifth a map with trees: load, placing and walk of a group, an
              edit, the fill; and load's number for each kind of bucket
+  --blocks   maps whose rule has two or more blocks over common drives, each
+             with a list that change 5 alters: load, placing and walk of a
+             group, an edit, the fill
   --giving-up  besides, two placings: one live drive in one cabinet, 2 tries;
              one dead drive, 2,550 tries, in fifty equations of a turn each
   --level    the last change of document 02 that counts
@@ -55,7 +58,8 @@ CRATE = os.path.join(HERE, '..', 'crates', 'definitions')
 ap = argparse.ArgumentParser()
 for name, value in (('seed', 1), ('maps', 4), ('edits', 2), ('damaged', 6),
                     ('walks', 1), ('leaves', 5), ('ties', 0), ('through', 4),
-                    ('trees', 10), ('keys', 500), ('per', 60), ('level', 4)):
+                    ('trees', 10), ('blocks', 4), ('keys', 500), ('per', 60),
+                    ('level', 5)):
     ap.add_argument('--' + name, type=int, default=value)
 ap.add_argument('--oracle', required=True)
 ap.add_argument('--crate', default=CRATE)
@@ -67,6 +71,7 @@ ARGS = ap.parse_args()
 CRATE = os.path.abspath(ARGS.crate)
 
 sys.path.insert(0, ARGS.oracle)
+import blocks  # noqa: E402
 import crush  # noqa: E402
 import fill   # noqa: E402
 import gen    # noqa: E402
@@ -157,7 +162,7 @@ def numbers(ns):
 class Theorems:
     def __init__(self):
         self.items = []                      # (name, kind, keys, text, what is
-        #                                      in it: STEP_5, NONE, TREE)
+        #                                      in it: STEP_5, NONE, TREE, SHARED)
 
     def add(self, kind, what, left, right, keys=0, mp=None, dead=0):
         """mp is the map, or the tree, that the equation is of, dead how many
@@ -166,18 +171,21 @@ class Theorems:
         if ARGS.wrong:
             right = spoil(right)
         has = {STEP_5: mp is not None and goes_through(mp), NONE: dead > 0,
-               TREE: mp is not None and crush.TREE in mp.kinds.values()}
+               TREE: mp is not None and crush.TREE in mp.kinds.values(),
+               SHARED: mp is not None and blocks.share_drives(crush, mp)}
         self.items.append((name, kind, keys,
                            '-- %s: %s\n%s : %s ≡ %s' % (kind, what, name, left,
                                                        right),
                            [part for part in has if has[part]]))
 
 
-STEP_5, NONE, TREE = 'a step 5', 'an inner walk that finds none', 'a tree'
+STEP_5, NONE, TREE, SHARED = 'a step 5', 'an inner walk that finds none', \
+    'a tree', 'blocks over common drives'
 
 
 def goes_through(mp):
-    return any(s[0] == crush.THROUGH for s in mp.steps)
+    return any(s[0] == crush.THROUGH for _, selects in mp.blocks()
+               for s in selects)
 
 
 def spoil(right):
@@ -629,12 +637,14 @@ def through_maps(ths, count):
 class Tree:
     """One tree bucket, as the reference's draw reads it of a map: children of
     any weight."""
-    steps = ()
 
     def __init__(self, bucket, items, weights):
         self.children, self.kinds = {bucket: items}, {bucket: crush.TREE}
         self.weight = dict(zip(items, weights)).get
         self.seed, self._nodes = crush.S, {}
+
+    def blocks(self):
+        return []
 
 
 # as many children as a height has at most, one less and one more
@@ -741,6 +751,47 @@ def tree_maps(ths, count):
         print('maps with trees: %d, events compared: %d, %s'
               % (count, events, ', '.join('%s: %d' % c
                                           for c in sorted(met.items()))))
+
+
+# ---------------------------------------------------------------- blocks
+
+def block_maps(ths, count):
+    seed, done, events, led = ARGS.seed * 100000, 0, 0, 0
+    # of how many maps an inner walk is so
+    met = {'goes on below its item': blocks.retries_below,
+           'meets held drives only': blocks.meets_held_only}
+    causes, walked = {}, dict.fromkeys(met, 0)
+    while done < count:
+        seed += 1
+        rng = random.Random('blocks:%d' % seed)
+        mp = blocks.altered(crush, gen, rng, done, 3, 1)[1]
+        line, = blocks.telling_edits(crush, rng, mp, 1)
+        both, dead = runs_cost(mp, edited(mp, line))
+        table = crush.fresh_fill(mp)
+        crush.STATS.clear()
+        res = crush.edit(mp, table, line, 230, False)
+        across = crush.STATS['parting 03, held by an earlier block']
+        # nearly every edit that is good has a cause 03 that leads to an
+        # earlier block
+        if both > ARGS.keys or \
+                not (across or res.number or rng.random() < 0.1):
+            continue
+        done += 1
+        led += across
+        for what, is_so in met.items():
+            walked[what] += any(is_so(crush, walk) for walk in
+                                blocks.inner_walks(crush.Run(mp, 0)))
+        for move in res.moves:
+            causes[move[4]] = causes.get(move[4], 0) + 1
+        events += map_theorems(ths, 'seed %d' % seed, mp, table, line, both,
+                               dead)
+    if count:
+        print('blocks: %d maps, each with a list that change 5 alters, with an '
+              'inner walk that %s; events compared: %d, causes: %s, a 03 that '
+              'leads to an earlier block: %d'
+              % (count, ', '.join('%s: %d' % c for c in walked.items()),
+                 events, ' '.join('%s: %d' % c for c in sorted(causes.items())),
+                 led))
 
 
 def one_cabinet(acceptance):
@@ -913,7 +964,7 @@ def run(ths, root):
         return 1 if ok or up else 0
     print('held: %d of %d; %s'
           % (ok, len(items), ', '.join('with %s: %d' % (part, held_of.get(
-              part, 0)) for part in (STEP_5, NONE, TREE))))
+              part, 0)) for part in (STEP_5, NONE, TREE, SHARED))))
     return 1 if failed or up is False else 0
 
 
@@ -935,6 +986,8 @@ def main():
         tree_draws(ths, ARGS.trees)
         kind_maps(ths)
         tree_maps(ths, (ARGS.trees + 4) // 5)
+    if ARGS.level >= crush.ONE_PLACE:
+        block_maps(ths, ARGS.blocks)
     if ARGS.giving_up:
         giving_up(root)
     sys.exit(run(ths, root))

@@ -5,9 +5,11 @@ make_vectors.py --oracle DIR [--level L]: DIR holds that CRUSH as crush.py, fill
 Writes crates/vectors/data/cases and crates/vectors/stdout. A case is a line of five numbers of eight digits, then the bytes of the map, of the edits and of the answer: the numbers are these three lengths,
 the groups and the width (0 and 0 of a refused map). The answer is a refusal; or each row, behind those of the groups below 64 a frame `12`
 with the tries (8), then what each edit prints and the map that is left. What is printed are the answers by kind of case; of the maps with a
-step 5 and of those with a tree how many there are and how many of them are filled and edited; the moves, by cause, whose cause stands in an inner
-walk, and those whose cause stands at a draw in a tree or in a straw bucket, or at one that finds none in one of the runs: of a 03 that of the place
-where following it ends; and the numbers of children that trees have."""
+step 5, of those with a tree and of those with blocks over common drives how many there are and how many of them are filled and edited; the moves,
+by cause, whose cause stands in an inner walk, and those whose cause stands at a draw in a tree or in a straw bucket, or at one that finds none in
+one of the runs: of a 03 that of the place where following it ends; the numbers of children that trees have; of the maps with blocks over common
+drives those whose table change 5 alters, those with an inner walk that goes on below its item or meets held drives only, and the moves by a 03
+whose drive an earlier block holds, in the run before the edit or in the one after it."""
 import argparse
 import collections
 import itertools
@@ -15,10 +17,14 @@ import pathlib
 import random
 import sys
 
+import blocks
+
 CRATE = pathlib.Path(__file__).resolve().parent.parent / "crates" / "vectors"
-SEEDS = {"valid": 260, "damaged": 260, "edges": 441, "ambiguous": 16}
+SEEDS = {"valid": 260, "damaged": 360, "edges": 648, "ambiguous": 22}
 # trees of 1 to 64 children besides, which are few among the edges
-TREES = 40
+TREES = 80
+# and maps made of blocks over common drives
+BLOCKS = 200
 TRIED = 64
 # what the program has space for, in bytes
 MAP, EDITS, ANSWER = 65600, 65536, 393216
@@ -106,7 +112,15 @@ def edge_of(gen, level, seed):
     return later[(seed // 3 * 2 + seed % 3 - 1) % len(later)].__name__
 
 
-def inputs(gen, level, large):
+def block_input(crush, gen, seed):
+    """A map of blocks over common drives, and edits that show it."""
+    rng = random.Random(f"blocks:{seed}")
+    doc, mp = blocks.altered(crush, gen, rng, seed, 8, rng.choice((2, 4, 6)))
+    doc.edits = blocks.telling_edits(crush, rng, mp, rng.choice((2, 3, 4)))
+    return doc.bytes()
+
+
+def inputs(crush, gen, level, large):
     """Kind, edge and bytes of each input; an edge whose inputs are large comes once."""
     for given in samples():
         yield "samples", "samples", given
@@ -119,23 +133,29 @@ def inputs(gen, level, large):
                 yield kind, edge, gen.generate(seed, kind, level)
     for seed in range(TREES):
         yield "trees", "trees", gen.e_tree(random.Random(f"tree:{seed}"))
+    for seed in range(BLOCKS if level >= crush.ONE_PLACE else 0):
+        yield "blocks", "blocks", block_input(crush, gen, seed)
 
 
 def watch(crush):
-    """A list that takes, of each move, its cause, the two draws or tests that it leads to and the map."""
-    parting, cause, seen, last, depth = crush.first_parting, crush.cause_of, [], [()], [0]
+    """A list that takes, of each move, its cause, in which run a 03 has its item held by an earlier block (or none), the two draws or tests that
+    it leads to and the map."""
+    parting, cause, seen, parts = crush.first_parting, crush.cause_of, [], []
 
     def watched_parting(old, new):
-        part = parting(old, new)
-        last[0] = part and part[2:]
-        return part
+        parts.append(parting(old, new))
+        return parts[-1]
 
     def watched_cause(e, old, new):
-        depth[0] += 1
+        is_move = not parts  # and not an earlier place that a 03 leads to
         met = cause(e, old, new)
-        depth[0] -= 1
-        if depth[0] == 0:
-            seen.append((met[0], *last[0], e.new_map))
+        if is_move:
+            (place, _, tested, _), (*_, ended, ended2) = parts[0], parts[-1]
+            holding = None
+            if parts[1:] and parts[1][0].block != place.block:
+                holding = "before" if blocks.is_held(crush, tested) else "after"
+            seen.append((met[0], holding, ended, ended2, e.new_map))
+            parts.clear()
         return met
 
     crush.first_parting, crush.cause_of = watched_parting, watched_cause
@@ -146,10 +166,20 @@ def goes_through(frames):
     return any(line.startswith(b"0405") for line in frames.splitlines())
 
 
-def trees_of(crush, level, frames):
-    """Of each tree of a map that load takes, the number of children."""
-    mp = crush.load(frames, level)
-    return [] if isinstance(mp, int) else [len(mp.children[b]) for b, kind in mp.kinds.items() if kind == crush.TREE]
+def trees_of(crush, mp):
+    """Of each tree of a map, the number of children."""
+    return [len(mp.children[b]) for b, kind in mp.kinds.items() if kind == crush.TREE]
+
+
+def told_by_blocks(crush, mp):
+    """What a filled map of blocks over common drives has."""
+    walks = [walk for run in crush.runs_of(mp) for walk in blocks.inner_walks(run)]
+    told = {
+        "altered by change 5": blocks.differs(crush, mp),
+        "an inner walk below its item": any(blocks.retries_below(crush, walk) for walk in walks),
+        "an inner walk of held drives only": any(blocks.meets_held_only(crush, walk) for walk in walks),
+    }
+    return [what for what in told if told[what]]
 
 
 def stands_at(crush, old, new, mp):
@@ -163,7 +193,7 @@ def stands_at(crush, old, new, mp):
 def main():
     parser = argparse.ArgumentParser(description=__doc__)
     parser.add_argument("--oracle", type=pathlib.Path, required=True)
-    parser.add_argument("--level", type=int, default=4)
+    parser.add_argument("--level", type=int, default=5)
     options = parser.parse_args()
     sys.path.insert(0, str(options.oracle))
     import crush
@@ -171,10 +201,10 @@ def main():
     import gen
 
     cases, answers, large, out = collections.Counter(), collections.defaultdict(collections.Counter), set(), []
-    through, inner, trees, draws, children = (collections.Counter() for _ in range(5))
+    through, inner, trees, draws, children, shared, across = (collections.Counter() for _ in range(7))
     seen = watch(crush)
     gen.Doc.level = options.level
-    for kind, edge, given in inputs(gen, options.level, large):
+    for kind, edge, given in inputs(crush, gen, options.level, large):
         frames, edits = reference.split_input(given)
         rest = given[len(frames):]
         if len(frames) > MAP or len(rest) > EDITS or (len(given) > LARGE and edge in large):
@@ -190,19 +220,25 @@ def main():
         out.append(b"%08x%08x%08x%08x%08x\n" % (len(frames), len(rest), len(answer), groups, w) + frames + rest + answer)
         cases[kind] += 1
         answers[kind].update(name_of(line) for line in answer.splitlines())
-        counts = trees_of(crush, options.level, frames)
         of_map = ["maps"] + ["filled"] * (groups > 0) + ["filled and edited"] * (groups > 0 and len(edits) > 0) + ["with moves"] * (len(seen) > 0)
         through.update(of_map * goes_through(frames))
-        trees.update(of_map * (len(counts) > 0))
-        children.update(counts)
-        inner.update(cause for cause, old, _, _ in seen if old.inner)
-        draws.update((cause, stands_at(crush, *met)) for cause, *met in seen)
+        mp = crush.load(frames, options.level)
+        if not isinstance(mp, int):
+            counts = trees_of(crush, mp)
+            trees.update(of_map * (len(counts) > 0))
+            children.update(counts)
+            if blocks.share_drives(crush, mp):
+                shared.update(of_map + told_by_blocks(crush, mp) * (groups > 0))
+        inner.update(cause for cause, _, old, _, _ in seen if old.inner)
+        draws.update((cause, stands_at(crush, *met)) for cause, _, *met in seen)
+        across.update(holding for _, holding, *_ in seen if holding)
     (CRATE / "data" / "cases").write_bytes(b"".join(out))
     (CRATE / "stdout").write_text(f"{len(out)} cases, 0 wrong\n")
     for kind, count in cases.items():
         print(f"{kind}: {count} cases, {dict(sorted(answers[kind].items()))}")
     print(f"step 5: {dict(through)}, moves by an inner walk {dict(sorted(inner.items()))}")
     print(f"trees: {dict(trees)}, children {dict(sorted(children.items()))}")
+    print(f"blocks over common drives: {dict(shared)}, moves by a drive of an earlier block, held in the run {dict(across)}")
     print(f"moves: {dict(sorted(draws.items()))}")
     print(f"{len(out)} cases, {sum(map(len, out))} bytes")
 

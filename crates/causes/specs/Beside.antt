@@ -221,13 +221,20 @@ module _ (v v′ : View) (x : ℕ) (p : Both) where
   module _ (mode : Mode) (n t : ℕ) (o o′ : Progress) (cs : List ℕ) (lv : leaves mode ≡ true) (within : p .old .len ≤ length (p .old .working))
       (e : Acted v x (p .old) (Select mode n t) o) (e′ : Acted v′ x (p .new) (Select mode n t) o′)
       (room : o .len ≤ length (o .working)) (room′ : o′ .len ≤ length (o′ .working))
-      (tells : TellsTo v v′ x mode n t (o .items) (o′ .items) (p .causes) (p .old .working) (o .len) cs) where
+      (tells : TellsTo v v′ x mode n t (take (p .old .emitted) (p .old .list)) (take (p .new .emitted) (p .new .list)) (o .items) (o′ .items) (p .causes) (p .old .working) (o .len) cs) where
     module _ (s s′ : Run) (h : Beside s s′ p) where
       abbrev P : List Place
-      P = selectOf v x mode n t (s .working) .places
+      P = selectOf v x mode n t (entriesOf (s .list)) (s .working) .places
 
       abbrev P′ : List Place
-      P′ = selectOf v′ x mode n t (s′ .working) .places
+      P′ = selectOf v′ x mode n t (entriesOf (s′ .list)) (s′ .working) .places
+
+      -- what each run has emitted before it
+      list : take (p .old .emitted) (p .old .list) ≡ entriesOf (s .list)
+      list = ap (λ (r : BareRun). r .list) (h .old)
+
+      list′ : take (p .new .emitted) (p .new .list) ≡ entriesOf (s′ .list)
+      list′ = ap (λ (r : BareRun). r .list) (h .new)
 
       olds : (take (o .len) (o .items) ≡ itemsOf P) × (take (o .len) (o .working) ≡ entriesOf P)
       unfolding act selected
@@ -244,26 +251,26 @@ module _ (v v′ : View) (x : ℕ) (p : Both) where
       long′ = held-length (o′ .working) (o′ .len) P′ (news .1) room′
 
       alike : length P′ ≡ length P
-      alike = select-count v′ x mode n t (s′ .working) lv ∙ ap (λ (k : ℕ). k * n) (h .told .same) ∙ sym (select-count v x mode n t (s .working) lv)
+      alike = select-count v′ x mode n t (entriesOf (s′ .list)) (s′ .working) lv ∙ ap (λ (k : ℕ). k * n) (h .told .same) ∙ sym (select-count v x mode n t (entriesOf (s .list)) (s .working) lv)
 
       place : (i : ℕ) → i < length P
-          → getD P i nowhere ≡ placeUnder (getD (s .working) (i / n) nowhere) (rankUnder v x mode n t (take i (o .items)) (getD (s .working) (i / n) nowhere) (i % n + 1))
+          → getD P i nowhere ≡ placeUnder (getD (s .working) (i / n) nowhere) (rankUnder v x mode n t (take (p .old .emitted) (p .old .list) ++ take i (o .items)) (getD (s .working) (i / n) nowhere) (i % n + 1))
       unfolding placeAfter
       place i l =
           let f = held-front (o .items) (o .len) P i (olds .0) (omega (arith, long)) in
-          rw (← f) (select-place v x mode n t (s .working) lv i (omega (arith, select-count v x mode n t (s .working) lv)))
+          rw (← f, list) (select-place v x mode n t (entriesOf (s .list)) (s .working) lv i (omega (arith, select-count v x mode n t (entriesOf (s .list)) (s .working) lv)))
 
       place′ : (i : ℕ) → i < length P
-          → getD P′ i nowhere ≡ placeUnder (getD (s′ .working) (i / n) nowhere) (rankUnder v′ x mode n t (take i (o′ .items)) (getD (s′ .working) (i / n) nowhere) (i % n + 1))
+          → getD P′ i nowhere ≡ placeUnder (getD (s′ .working) (i / n) nowhere) (rankUnder v′ x mode n t (take (p .new .emitted) (p .new .list) ++ take i (o′ .items)) (getD (s′ .working) (i / n) nowhere) (i % n + 1))
       unfolding placeAfter
       place′ i l =
           let f = held-front (o′ .items) (o′ .len) P′ i (news .0) (omega (arith, long′, alike)) in
-          rw (← f) (select-place v′ x mode n t (s′ .working) lv i (omega (arith, select-count v′ x mode n t (s′ .working) lv, alike)))
+          rw (← f, list′) (select-place v′ x mode n t (entriesOf (s′ .list)) (s′ .working) lv i (omega (arith, select-count v′ x mode n t (entriesOf (s′ .list)) (s′ .working) lv, alike)))
 
       each : (i : ℕ) → i < length P → Told (getD cs i 0) (getD P i nowhere) (getD P′ i nowhere)
       unfolding TellsTo TellsUnder
       each i l =
-          let d : i / n < length (s .working) = div-below i n (length (s .working)) (omega (arith, select-count v x mode n t (s .working) lv)) in
+          let d : i / n < length (s .working) = div-below i n (length (s .working)) (omega (arith, select-count v x mode n t (entriesOf (s .list)) (s .working) lv)) in
           rw (place i l, place′ i l)
           (tells i (omega (arith, long)) (getD (s .working) (i / n) nowhere) (getD (s′ .working) (i / n) nowhere) (h .told .each (i / n) d)
           (held-entry (p .old .working) (p .old .len) (s .working) (i / n) (ap (λ (r : BareRun). r .working) (h .old)) (omega (arith, h .len)) (omega (arith, h .len))))

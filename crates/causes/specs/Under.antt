@@ -1,7 +1,7 @@
 -- The cause of a place that a select puts out, from the cause of the place above it. Assumes nothing.
-use mathlib.Core.Path.{_≡_, refl, sym, ap, _∙_}
+use mathlib.Core.Path.{_≡_, refl, sym, ap, _∙_, subst}
 use mathlib.Core.Bool.{true, false}
-use mathlib.Core.List.{List}
+use mathlib.Core.List.{List, _++_}
 use mathlib.Core.Logic.{inl, inr, ⊎-elim}
 use Prim.Native.Nat.{ℕ, _+_, _/_, _%_, _<_}
 use native.Mathlib.Nat.{eq-or-lt-of-le}
@@ -23,18 +23,18 @@ use Rattle.lockstep.specs.Parts.{parts-after}
 use Rattle.lockstep.specs.Lockstep.{Ranks}
 use Rattle.causes.specs.Told.{Told, told-same, told-under}
 
--- c is the cause of what rank r makes under a place of cause above and old entry e, where the select holds these items so far
+-- c is the cause of what rank r makes under a place of cause above and old entry e, these numbers being held so far
 unfoldable pub TellsUnder : View → View → ℕ → Mode → ℕ → ℕ → List ℕ → List ℕ → ℕ → ℕ → ℕ → ℕ → Type 0
 TellsUnder v v′ x mode n t held held′ above e r c =
     (a b : Place) → Told above a b → a .entry ≡ e
     → Told c (placeUnder a (rankUnder v x mode n t held a r)) (placeUnder b (rankUnder v′ x mode n t held′ b r))
 
--- of the places of a select the first k have their causes in cs: olds and news are the items that it holds, `working` the entries of the
--- working list in the old run, and above the causes of its places
-unfoldable pub TellsTo : View → View → ℕ → Mode → ℕ → ℕ → List ℕ → List ℕ → List ℕ → List ℕ → ℕ → List ℕ → Type 0
-TellsTo v v′ x mode n t olds news above working k cs =
+-- of the places of a select the first k have their causes in cs: before it each run has emitted its list, olds and news are the items that it
+-- holds, `working` the entries of the working list in the old run, and above the causes of its places
+unfoldable pub TellsTo : View → View → ℕ → Mode → ℕ → ℕ → List ℕ → List ℕ → List ℕ → List ℕ → List ℕ → List ℕ → ℕ → List ℕ → Type 0
+TellsTo v v′ x mode n t list list′ olds news above working k cs =
     (p : ℕ) → p < k
-    → TellsUnder v v′ x mode n t (take p olds) (take p news) (getD above (p / n) 0) (getD working (p / n) 0) (p % n + 1) (getD cs p 0)
+    → TellsUnder v v′ x mode n t (list ++ take p olds) (list′ ++ take p news) (getD above (p / n) 0) (getD working (p / n) 0) (p % n + 1) (getD cs p 0)
 
 -- the cause that follows from two ranks made at once
 abbrev pub courseCause : Course → ℕ
@@ -74,19 +74,33 @@ module _ (v v′ : View) (x : ℕ) (mode : Mode) (n t : ℕ) where
         let u : eqb (a .entry) hole ≡ false = ne-eqb (a .entry) hole (λ k. h (sym q ∙ k)) in
         rw (← s, u, q) (ranks-told c a _ _ (rw g at f))
 
+  -- what is held, and what it is read as
+  pub tells-held : (above e r c : ℕ) (held held′ ns ns′ : List ℕ) → held ≡ ns → held′ ≡ ns′ → TellsUnder v v′ x mode n t held held′ above e r c
+      → TellsUnder v v′ x mode n t ns ns′ above e r c
+  tells-held above e r c held held′ ns ns′ q q′ h =
+      subst (λ (l : List ℕ). TellsUnder v v′ x mode n t l ns′ above e r c) q (subst (λ (l : List ℕ). TellsUnder v v′ x mode n t held l above e r c) q′ h)
+
   -- ---- a loop over the places
 
-  module _ (olds news above working : List ℕ) where
-    pub tells-none : (cs : List ℕ) → TellsTo v v′ x mode n t olds news above working 0 cs
+  module _ (list list′ olds news above working : List ℕ) where
+    pub tells-none : (cs : List ℕ) → TellsTo v v′ x mode n t list list′ olds news above working 0 cs
     unfolding TellsTo
     tells-none cs p h = absurd (omega arith)
 
-    pub tells-more : (k : ℕ) (cs : List ℕ) (c : ℕ) → k < length cs → TellsTo v v′ x mode n t olds news above working k cs
-        → TellsUnder v v′ x mode n t (take k olds) (take k news) (getD above (k / n) 0) (getD working (k / n) 0) (k % n + 1) c
-        → TellsTo v v′ x mode n t olds news above working (k + 1) (set cs k c)
+    pub tells-more : (k : ℕ) (cs : List ℕ) (c : ℕ) → k < length cs → TellsTo v v′ x mode n t list list′ olds news above working k cs
+        → TellsUnder v v′ x mode n t (list ++ take k olds) (list′ ++ take k news) (getD above (k / n) 0) (getD working (k / n) 0) (k % n + 1) c
+        → TellsTo v v′ x mode n t list list′ olds news above working (k + 1) (set cs k c)
     unfolding TellsTo
     tells-more k cs c h so one p l =
         ⊎-elim
         (λ (q : p ≡ k). rw (q, getD-set-same cs k c 0 h) one)
         (λ (q : p < k). rw (getD-set-other cs k p c 0 (λ e. omega (arith, e))) (so p q))
         (eq-or-lt-of-le (omega arith))
+
+  -- all of them, with what each run has emitted
+  pub tells-to : (olds news above working cs : List ℕ) {list list′ ls ls′ : List ℕ} {k l : ℕ} → list ≡ ls → list′ ≡ ls′ → k ≡ l
+      → TellsTo v v′ x mode n t list list′ olds news above working k cs → TellsTo v v′ x mode n t ls ls′ olds news above working l cs
+  tells-to olds news above working cs {list} {ls} {ls′} {k} q q′ e h =
+      subst (λ (i : ℕ). TellsTo v v′ x mode n t ls ls′ olds news above working i cs) e
+      (subst (λ (a : List ℕ). TellsTo v v′ x mode n t a ls′ olds news above working k cs) q
+      (subst (λ (a : List ℕ). TellsTo v v′ x mode n t list a olds news above working k cs) q′ h))

@@ -3,7 +3,7 @@
 ghost use mathlib.Core.Path.{_≡_};
 ghost use mathlib.Core.Bool.{true};
 ghost use Prim.Native.Nat.{ℕ, _/_, _<_, _≤_};
-ghost use lib.ListN.{length, getD};
+ghost use lib.ListN.{length, getD, take};
 ghost use Rattle.definitions.specs.Lists.{every};
 ghost use Rattle.definitions.specs.View.{View};
 ghost use Rattle.definitions.specs.Select.{nowhere};
@@ -28,6 +28,7 @@ use lockstep::partings;
 use lockstep::ranks;
 use placement::rule;
 use placement::rule::Progress;
+use placement::select;
 use walk::Search;
 use walk::Wanted;
 
@@ -83,7 +84,7 @@ fn place_cause<'a, 'b, 'c>(
     }
 }
 
-// The causes of the places of a select that has led the two runs from p to o and n. Each run holds items of its own.
+// The causes of the places of a select that has led the two runs from p to o and n. Each run holds what it has emitted, and items of its own.
 fn causes_of<'a>(
     plan: &'a Plan,
     old: &'a Values,
@@ -96,17 +97,26 @@ fn causes_of<'a>(
 ) -> [u32; 16]
     requires { ⌜ Sound (now plan) ⌝ }
     requires { ⌜ (1 ≤ wanted .n) × (wanted .n ≤ 16) × Inward (wanted .mode) (wanted .t) × (o .len ≤ 16)
+        × (p .old .emitted ≤ 32) × (p .new .emitted ≤ 32)
         × ((i : ℕ) → i < o .len → Workable (getD (p .old .working) (i / wanted .n) 0)) ⌝ }
     ensures { λ cs. ⌜ TellsTo (viewIn (now (plan .entry)) (now (old .entry))) (viewIn (now (plan .entry)) (now (new .entry)))
-        x (wanted .mode) (wanted .n) (wanted .t) (o .items) (n .items) (p .causes) (p .old .working) (o .len) cs ⌝ }
+        x (wanted .mode) (wanted .n) (wanted .t) (take (p .old .emitted) (p .old .list)) (take (p .new .emitted) (p .new .list))
+        (o .items) (n .items) (p .causes) (p .old .working) (o .len) cs ⌝ }
 {
     let from = p.old;
+    let from2 = p.new;
     let working = from.working;
+    let list = from.list;
+    let list2 = from2.list;
+    let e = from.emitted;
+    let e2 = from2.emitted;
     let above = p.causes;
-    let olds = o.items;
-    let news = n.items;
+    let items = o.items;
+    let items2 = n.items;
     let len = o.len;
     let w = wanted.n as usize;
+    let mut olds = select::held_from(&list[..e]);
+    let mut news = select::held_from(&list2[..e2]);
     let mut causes: [u32; 16] = [0; 16];
     let mut k: usize = 0;
     while k < len {
@@ -116,7 +126,19 @@ fn causes_of<'a>(
             entry: working[i],
             cause: above[i],
         };
-        causes[k] = place_cause(plan, old, new, x, wanted, &olds[..k], &news[..k], a, r);
+        causes[k] = place_cause(
+            plan,
+            old,
+            new,
+            x,
+            wanted,
+            &olds[..e + k],
+            &news[..e2 + k],
+            a,
+            r,
+        );
+        olds[e + k] = items[k];
+        news[e2 + k] = items2[k];
         k += 1;
     }
     causes

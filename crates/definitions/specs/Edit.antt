@@ -103,7 +103,8 @@ isHeld Rejected = false
 isHeld Passed = false
 
 -- "01, the edited device passed acceptance in one only; 02, the draws differ ..; 03, the item was held before it in this select in one
--- run only. Where 01 and 03 both apply, 03." The ends of a `Test` differ, so held in either is held in one only.
+-- run only. Where 01 and 03 both apply, 03."; "Cause 03 .. looks for a device at all earlier places of the list, and for a bucket, as before,
+-- at those of its own select." The ends of a `Test` differ, so held in either is held in one only.
 unfoldable pub causeOf : Parting → ℕ
 causeOf Same = 0
 causeOf (Draw d e) = 2

@@ -8,7 +8,7 @@ use Rattle.definitions.specs.declared.Action.the-variants.{Take, Select,
 use Rattle.definitions.specs.Lists.{sum}
 use Rattle.definitions.specs.Map.{Map, bucketItem, actionsOf}
 use Rattle.definitions.specs.View.{View, viewOf}
-use Rattle.definitions.specs.Select.{Place, Selected, nowhere, selectOf}
+use Rattle.definitions.specs.Select.{Place, Selected, entriesOf, nowhere, selectOf}
 
 -- the working list, the list emitted so far, and the tries so far
 pub record Run : Type 0 where
@@ -23,10 +23,11 @@ taken b = record { item = bucketItem b; entry = bucketItem b; walk = [] } ∷ []
 unfoldable pub selected : Run → Selected → Run
 selected s k = record { working = k .places; list = s .list; tries = s .tries + k .tries }
 
--- "Emit appends the working list."
+-- "Emit appends the working list." A select begins with what the blocks before it have emitted. ("Buckets are held within their own select
+-- only": the list has devices and holes alone, `emitted-devices`, crate laws.)
 unfoldable pub act : View → ℕ → Run → Action → Run
 act v x s (Take b) = record { working = taken b; list = s .list; tries = s .tries }
-act v x s (Select mode n t) = selected s (selectOf v x mode n t (s .working))
+act v x s (Select mode n t) = selected s (selectOf v x mode n t (entriesOf (s .list)) (s .working))
 act v x s Emit = record { working = s .working; list = s .list ++ s .working; tries = s .tries }
 act v x s Idle = s
 

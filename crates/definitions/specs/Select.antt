@@ -50,7 +50,8 @@ holesUnder FirstN n above = []
 unfoldable pub nowhere : Place
 nowhere = record { item = hole; entry = hole; walk = [] }
 
-module _ (v : View) (x : ℕ) (mode : Mode) (n t : ℕ) where
+-- v, the group x, the select (mode, count n, type t), and the entries of the list emitted before it
+module _ (v : View) (x : ℕ) (mode : Mode) (n t : ℕ) (before : List ℕ) where
   unfoldable pub withRank : Place → Selected → RankEvents → Selected
   withRank above s k =
       record {
@@ -59,10 +60,11 @@ module _ (v : View) (x : ℕ) (mode : Mode) (n t : ℕ) where
         tries = s .tries + triesIn (k .ranked);
       }
 
-  -- the rank r at the bucket of the place above
+  -- the rank r at the bucket of the place above. Held are the items of the select's own places so far, and: "A device test now also fails for
+  -- a device that an earlier block has emitted, and it counts as held, local retry included."
   unfoldable pub nextRank : Place → ℕ → Selected → Selected
   nextRank above r s =
-      withRank above s (rankOf v x mode n t (itemsOf (s .places)) (bucketNumber (above .entry)) r (s .f))
+      withRank above s (rankOf v x mode n t (before ++ itemsOf (s .places)) (bucketNumber (above .entry)) r (s .f))
 
   -- "for each bucket in it, f = 0 and ranks r = 1 to n follow": the ranks 1 to k
   unfoldable pub ranksTo : Place → Selected → ℕ → Selected

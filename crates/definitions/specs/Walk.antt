@@ -90,7 +90,7 @@ unfoldable pub accepted : View → ℕ → ℕ → Bool
 accepted v x i = isBucket i || deviceAccepts v x i
 
 -- "the item is tested: it must not be held already by this select, for any bucket of the working list; and a device must pass
--- acceptance": held are the items that this select holds so far
+-- acceptance": held are the items that this select holds so far, and the devices that an earlier block has emitted
 unfoldable pub verdictOf : View → ℕ → List ℕ → ℕ → Verdict
 verdictOf v x held i = cond (has i held) Held (cond (accepted v x i) Passed Rejected)
 
@@ -204,7 +204,8 @@ triesIn k = k .fr + cond (eqb (k .entry) hole) 0 1 + k .inner
 -- ---- select through
 
 -- "an independent inner walk looks for one device beneath it. It begins at the item with the r' that drew it, each inner failure adds n, and
--- it gives up after 50.": a rank for type 0 at item i, whose r is the r' that drew i, and whose f_r are the inner failures
+-- it gives up after 50.": a rank for type 0 at item i, whose r is the r' that drew i, and whose f_r are the inner failures. Of a device that
+-- an earlier block has emitted: "In a select through this happens in the inner test, the inner failures standing for f_r."
 unfoldable pub innerWalk : View → ℕ → ℕ → List ℕ → ℕ → ℕ → RankEvents
 innerWalk v x n held q i = rankBy v x Independent n 0 (plainTest v x held) (bucketNumber i) q 0
 
@@ -224,7 +225,7 @@ throughBy v x n held q i false = sought i (innerWalk v x n held q i)
 unfoldable pub throughTest : View → ℕ → ℕ → List ℕ → ℕ → ℕ → Trial
 throughTest v x n held q i = throughBy v x n held q i (has i held)
 
--- the test of a select: held are the items that it holds so far
+-- the test of a select: held is as in `verdictOf`
 unfoldable pub testOf : Mode → View → ℕ → ℕ → List ℕ → ℕ → ℕ → Trial
 testOf FirstN v x n held q i = plainTest v x held q i
 testOf Independent v x n held q i = plainTest v x held q i

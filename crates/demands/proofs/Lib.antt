@@ -6,3 +6,4 @@ pub mod Sample
 pub mod ThreeCauses
 pub mod Through
 pub mod Trees
+pub mod Blocks

@@ -75,6 +75,13 @@ module _ (kids : ℕ → List ℕ) (kind : ℕ → ℕ) (F : Forest kids kind) w
   one-child m m′ (above n h) (is e) = absurd (no-cycle m (Memᴰ·cast (sym e) m′) n h)
   one-child {c′} m m′ (above {p} {d} n h) (above {p = q} n′ h′) = one-child m m′ h (subst (Holds kids c′) (F .one q p d n′ n) h′)
 
+  -- of the items of one type at most one is or holds d
+  pub one-holder : {i j d : ℕ} → kind i ≡ kind j → Holds kids i d → Holds kids j d → i ≡ j
+  one-holder q (is e) (is f) = e ∙ sym f
+  one-holder {i} {j} q (is e) (above {p} {d} n h) = absurd (omega (arith, q, ap kind e, F .falls p d n, holds-kind h))
+  one-holder {i} {j} q (above {p} {d} n h) (is f) = absurd (omega (arith, q, ap kind f, F .falls p d n, holds-kind h))
+  one-holder {j} q (above {p} {d} n h) (above {p = o} n′ h′) = one-holder q h (subst (Holds kids j) (F .one o p d n′ n) h′)
+
   -- two weights of the children of a bucket: only one child's changes, by e at most
   module _ (v w : ℕ → ℕ) (b d e : ℕ) where
     abbrev Moved : ℕ → Type 0

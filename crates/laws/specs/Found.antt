@@ -3,7 +3,7 @@
 -- entry of a group's list is a hole or a device of the map. Assumes nothing.
 use mathlib.Core.Path.{_≡_, refl, _∙_, subst}
 use mathlib.Core.Bool.{Bool, true, false, cond, _&&_}
-use mathlib.Core.List.{List, [], _∷_, List·Memᴰ, Memᴰ·of-map}
+use mathlib.Core.List.{List, [], _∷_, _++_, List·Memᴰ, Memᴰ·of-map}
 use mathlib.Core.Logic.{_⊎_, inl, inr, ⊎-elim}
 use Prim.Native.Nat.{ℕ, zero, suc, _-_, _<_, _≤_}
 use native.Mathlib.Nat.{le-of-lt}
@@ -59,7 +59,7 @@ no-fill s i e k q = let z : _≡_ {A = ℕ} 0 1 = cc in omega arith
 
 -- what a descent comes to was drawn
 module _ (v : View) (x t : ℕ) where
-  pub descent-draws : (r k b i : ℕ) → descendIn v x t r k b .landed .drawn ≡ Winner i → DrawnBy v x i
+  descent-draws : (r k b i : ℕ) → descendIn v x t r k b .landed .drawn ≡ Winner i → DrawnBy v x i
   unfolding descendIn onDrawn onWinner landing deeper
   descent-draws r zero b i e = absurd (no-winner i e)
   descent-draws r (suc k) b i e = from (drawAt v x r b) refl e (λ c. descent-draws r k c i)
@@ -75,16 +75,16 @@ module _ (v : View) (x t : ℕ) where
       from Nothing q h rest = absurd (no-winner i h)
 
 -- item i of type t was drawn, and its test puts out e
-record Passes (v : View) (x t : ℕ) (test : ℕ → ℕ → Trial) (i e : ℕ) : Type 0 where
-  q : ℕ
-  drawn : DrawnBy v x i
-  type : v .type i ≡ t
-  passed : test q i .tried .verdict ≡ Passed
-  entry : test q i .tried .entry ≡ e
+pub record Passes (v : View) (x t : ℕ) (test : ℕ → ℕ → Trial) (i e : ℕ) : Type 0 where
+  pub q : ℕ
+  pub drawn : DrawnBy v x i
+  pub type : v .type i ≡ t
+  pub passed : test q i .tried .verdict ≡ Passed
+  pub entry : test q i .tried .entry ≡ e
 
 -- a rank ends in a hole, or in an item that passes
-abbrev Ends : View → ℕ → ℕ → (ℕ → ℕ → Trial) → Ranked → Type 0
-Ends v x t test k = (k .entry ≡ hole) ⊎ Passes v x t test (k .item) (k .entry)
+abbrev pub Ends : View → ℕ → ℕ → (ℕ → ℕ → Trial) → Ranked → Type 0
+Ends v x t test k = ((k .item ≡ hole) × (k .entry ≡ hole)) ⊎ Passes v x t test (k .item) (k .entry)
 
 module _ (v : View) (x : ℕ) (mode : Mode) (n t : ℕ) (test : ℕ → ℕ → Trial) (start r : ℕ) where
   verdict-fills : (s : State) (b i e k j f l : ℕ) (w : Verdict) → onVerdict start s b i e k w ≡ Fill j f l → (w ≡ Passed) × (i ≡ j) × (e ≡ f)
@@ -118,7 +118,7 @@ module _ (v : View) (x : ℕ) (mode : Mode) (n t : ℕ) (test : ℕ → ℕ → 
 
   rank-fills : (k : ℕ) (s : State) → Ends v x t test (rankFrom v x mode n t test start r k s .ranked)
   unfolding rankFrom rankEnd onTurn afterTurn onward
-  rank-fills zero s = inl refl
+  rank-fills zero s = inl (refl, refl)
   rank-fills (suc k) s = go (turnOf v x mode n t test start r s .turn) refl (rank-fills k)
     where
       after : State → RankEvents
@@ -129,7 +129,7 @@ module _ (v : View) (x : ℕ) (mode : Mode) (n t : ℕ) (test : ℕ → ℕ → 
       go (Fill i e j) q rest = inr (turn-fills s i e j q)
       go (Fail z) q rest = rest z
 
-  rank-ends-in : (f₀ : ℕ) → Ends v x t test (rankBy v x mode n t test start r f₀ .ranked)
+  pub rank-ends-in : (f₀ : ℕ) → Ends v x t test (rankBy v x mode n t test start r f₀ .ranked)
   unfolding rankBy
   rank-ends-in f₀ = rank-fills 50 (rankStart start f₀)
 
@@ -143,7 +143,7 @@ module _ (v : View) (x : ℕ) (held : List ℕ) where
   unfolding innerWalk
   inner-found n q i =
       let k = innerWalk v x n held q i .ranked in
-      ⊎-elim (λ h. inl h) (λ P. plain-found 0 (k .item) (k .entry) P) (rank-ends-in v x Independent n 0 (plainTest v x held) (bucketNumber i) q 0)
+      ⊎-elim (λ h. inl (h .1)) (λ P. plain-found 0 (k .item) (k .entry) P) (rank-ends-in v x Independent n 0 (plainTest v x held) (bucketNumber i) q 0)
 
   -- what passes has, put out, the type that the mode reaches
   test-found : (mode : Mode) (n t i e : ℕ) → Passes v x t (testOf mode v x n held) i e → Found v x (reaches mode t) e
@@ -163,7 +163,7 @@ module _ (v : View) (x : ℕ) (held : List ℕ) where
   rank-found mode n t start r f₀ =
       let test = testOf mode v x n held in
       let k = rankBy v x mode n t test start r f₀ .ranked in
-      ⊎-elim (λ h. inl h) (λ P. test-found mode n t (k .item) (k .entry) P) (rank-ends-in v x mode n t test start r f₀)
+      ⊎-elim (λ h. inl (h .1)) (λ P. test-found mode n t (k .item) (k .entry) P) (rank-ends-in v x mode n t test start r f₀)
 
 -- ---- select
 
@@ -177,7 +177,7 @@ unfolding entriesOf
 each-entry P ps h e i = let (p, j, q) = Memᴰ·of-map (λ (p : Place). p .entry) ps i in subst P q (h p j)
 
 -- what holds of each hole under a place of the working list, and of what each rank at such a place puts out, holds of what a select puts out
-module _ (v : View) (x : ℕ) (mode : Mode) (n t : ℕ) (working : List Place) (Q : Place → Type 0)
+module _ (v : View) (x : ℕ) (mode : Mode) (n t : ℕ) (before : List ℕ) (working : List Place) (Q : Place → Type 0)
     (under : (above : Place) → List·Memᴰ above working → Q (record { item = hole; entry = hole; walk = above .walk }))
     (ranked : (above : Place) → List·Memᴰ above working → (above .entry ≡ hole → ⊥) → (held : List ℕ) (r f₀ : ℕ)
     → Q (placeUnder above (rankOf v x mode n t held (bucketNumber (above .entry)) r f₀))) where
@@ -198,36 +198,36 @@ module _ (v : View) (x : ℕ) (mode : Mode) (n t : ℕ) (working : List Place) (
   holes-each FirstN above i = each-none Q
 
   ranks-each : (above : Place) (s : Selected) (k : ℕ) → List·Memᴰ above working → (above .entry ≡ hole → ⊥) → Each Q (s .places)
-      → Each Q (ranksTo v x mode n t above s k .places)
+      → Each Q (ranksTo v x mode n t before above s k .places)
   unfolding ranksTo nextRank withRank
   ranks-each above s zero i f h = h
   ranks-each above s (suc k) i f h =
-      let o = ranksTo v x mode n t above s k in
-      each-more Q (o .places) _ (ranks-each above s k i f h) (out-each mode _ (ranked above i f (itemsOf (o .places)) (suc k) (o .f)))
+      let o = ranksTo v x mode n t before above s k in
+      each-more Q (o .places) _ (ranks-each above s k i f h) (out-each mode _ (ranked above i f (before ++ itemsOf (o .places)) (suc k) (o .f)))
 
   at-each : (above : Place) (s : Selected) → List·Memᴰ above working → Each Q (s .places) → (u : Bool) → eqb (above .entry) hole ≡ u
-      → Each Q (selectAt v x mode n t above s u .places)
+      → Each Q (selectAt v x mode n t before above s u .places)
   unfolding selectAt withHoles
   at-each above s i h true e = each-more Q (s .places) _ h (holes-each mode above i)
   at-each above s i h false e = ranks-each above s n i (eqb-false (above .entry) hole e) h
 
-  to-each : (k : ℕ) → k ≤ length working → Each Q (selectTo v x mode n t working k .places)
+  to-each : (k : ℕ) → k ≤ length working → Each Q (selectTo v x mode n t before working k .places)
   unfolding selectTo
   to-each zero l = each-none Q
   to-each (suc k) l =
       let above = getD working k nowhere in
-      at-each above (selectTo v x mode n t working k) (mem-at nowhere working k l) (to-each k (omega arith)) (eqb (above .entry) hole) refl
+      at-each above (selectTo v x mode n t before working k) (mem-at nowhere working k l) (to-each k (omega arith)) (eqb (above .entry) hole) refl
 
-  pub select-each : Each Q (selectOf v x mode n t working .places)
+  pub select-each : Each Q (selectOf v x mode n t before working .places)
   unfolding selectOf
   select-each = to-each (length working) (omega arith)
 
 -- each entry that a select puts out is a hole, or an item that was drawn, of the type that the mode reaches
-pub select-found : (v : View) (x : ℕ) (mode : Mode) (n t : ℕ) (working : List Place)
-    → Entries (Found v x (reaches mode t)) (selectOf v x mode n t working .places)
+pub select-found : (v : View) (x : ℕ) (mode : Mode) (n t : ℕ) (before : List ℕ) (working : List Place)
+    → Entries (Found v x (reaches mode t)) (selectOf v x mode n t before working .places)
 unfolding placeUnder
-select-found v x mode n t working =
-    select-each v x mode n t working (λ (p : Place). Found v x (reaches mode t) (p .entry)) (λ above i. inl refl)
+select-found v x mode n t before working =
+    select-each v x mode n t before working (λ (p : Place). Found v x (reaches mode t) (p .entry)) (λ above i. inl refl)
     (λ above i f held r f₀. rank-found v x held mode n t (bucketNumber (above .entry)) r f₀)
 
 -- ---- rule
@@ -244,7 +244,7 @@ module _ (v : View) (x : ℕ) (types : ℕ → ℕ) (actions : List Action) (P :
   unfolding act taken selected reachedBy
   act-reached s k u (Take b) l e h = each-one (λ (p : Place). Reached v P (types b) (p .entry)) _ (inr (takes k b l e))
   act-reached s k u (Select mode n t) l e h =
-      λ p i. ⊎-elim (λ q. inl q) (λ (d, q). inr (drawn (p .entry) d, q)) (select-found v x mode n t (s .working) p i)
+      λ p i. ⊎-elim (λ q. inl q) (λ (d, q). inr (drawn (p .entry) d, q)) (select-found v x mode n t (entriesOf (s .list)) (s .working) p i)
   act-reached s k u Emit l e h = h
   act-reached s k u Idle l e h = h
 
@@ -284,17 +284,22 @@ module _ (m : Map) (L : Loadable m) where
   pub present-typed : (b : ℕ) → hasBucket m b ≡ true → 0 < bucketType m b
   present-typed b e = let (k, q, t, r) = bucket-there b e in omega (arith, t, r .least)
 
+  -- a device that is present has a number below 1,024
+  pub device-number : (i : ℕ) → hasDevice m i ≡ true → i < 1024
+  unfolding hasDevice
+  device-number i q =
+      let none : Device = record { number = 0; weight = 0; acceptance = 0 } in
+      let (k, l, t) = number-at (λ (c : Device). c .number) none i (m .devices) q in
+      omega (arith, t, device-ranged (getD (m .devices) k none) (every-at deviceRanged (m .devices) k none (ranged-is m (L .ranged) .devices) l) .number)
+
   -- an item that is present is in range
   pub present-ranged : (i : ℕ) → hasItem m i ≡ true → ChildRanged i
-  unfolding hasItem hasDevice
+  unfolding hasItem
   present-ranged i h = go (isBucket i) refl h
     where
       go : (u : Bool) → isBucket i ≡ u → cond u (hasBucket m (bucketNumber i)) (hasDevice m i) ≡ true → ChildRanged i
       go true e q = let (k, p, t, r) = bucket-there (bucketNumber i) q in let l = leb-true 65536 i e in inr (l, omega (arith, p, r .number))
-      go false e q =
-          let none : Device = record { number = 0; weight = 0; acceptance = 0 } in
-          let (k, l, t) = number-at (λ (c : Device). c .number) none i (m .devices) q in
-          inl (omega (arith, t, device-ranged (getD (m .devices) k none) (every-at deviceRanged (m .devices) k none (ranged-is m (L .ranged) .devices) l) .number))
+      go false e q = inl (device-number i q)
 
   -- and, where its type is 0, a device
   pub present-device : (i : ℕ) → hasItem m i ≡ true → typeOf m i ≡ 0 → hasDevice m i ≡ true

@@ -17,4 +17,6 @@ pub mod Forest
 pub mod Found
 pub mod Filled
 pub mod Origins
+pub mod OnePlace
+pub mod FirstBlock
 pub mod Tries

@@ -1,13 +1,13 @@
 -- Laws of membership in a list, with the definitions' tests. Assumes nothing.
 use mathlib.Core.Path.{_≡_, refl, sym, ap, _∙_, subst}
-use mathlib.Core.Bool.{Bool, true, false, cond, false≢true, or-true}
-use mathlib.Core.Logic.{⊎-elim}
-use mathlib.Core.List.{List, [], _∷_, _++_, map, List·Memᴰ, List·Memᴰ·head, List·Memᴰ·tail, List·Memᴰ·append-cases, List·Memᴰ·eq-of-singleton, Memᴰ·cast, Memᴰ·map}
+use mathlib.Core.Bool.{Bool, true, false, cond, _||_, false≢true, or-true}
+use mathlib.Core.Logic.{_⊎_, inl, inr, ⊎-elim}
+use mathlib.Core.List.{List, [], _∷_, _++_, map, List·Memᴰ, List·Memᴰ·head, List·Memᴰ·tail, List·Memᴰ·append-cases, List·Memᴰ·eq-of-singleton, Memᴰ·cast, Memᴰ·append-left, Memᴰ·append-right, Memᴰ·map}
 use Prim.Native.Nat.{ℕ, zero, suc, _<_}
 use native.Mathlib.Omega.{arith}
 use lib.Dec.{eqb}
 use lib.ListN.{length, getD, replicate}
-use borrow.Author.Tests.{eq-eqb}
+use borrow.Author.Tests.{eqb-true, eq-eqb}
 use Rattle.definitions.specs.Lists.{every, kept, has, distinct}
 use Rattle.laws.specs.Lists.{every-head, every-tail}
 use Rattle.laws.specs.Counting.{distinct-head, distinct-tail}
@@ -44,11 +44,36 @@ module _ {A : Type 0} where
   at-mem d (List·Memᴰ·head q) = (0, omega arith, sym q)
   at-mem d (List·Memᴰ·tail m) = let (k, l, e) = at-mem d m in (suc k, omega arith, e)
 
+bool-false : (b : Bool) → (b ≡ true → ⊥) → b ≡ false
+bool-false true f = absurd (f refl)
+bool-false false f = refl
+
 -- a member is in the list
 pub mem-has : {k : ℕ} {xs : List ℕ} → List·Memᴰ k xs → has k xs ≡ true
 unfolding has
 mem-has {k} (List·Memᴰ·head {x} q) = rw (eq-eqb x k (sym q))
 mem-has {k} (List·Memᴰ·tail {x} m) = rw (mem-has m) (or-true (eqb x k))
+
+-- what is in the list is a member
+pub has-mem : (k : ℕ) (xs : List ℕ) → has k xs ≡ true → List·Memᴰ k xs
+unfolding has
+has-mem k [] e = absurd (false≢true e)
+has-mem k (x ∷ xs) e = go (eqb x k) refl e (has-mem k xs)
+  where
+    go : (b : Bool) → eqb x k ≡ b → b || has k xs ≡ true → (has k xs ≡ true → List·Memᴰ k xs) → List·Memᴰ k (x ∷ xs)
+    go true q f rest = List·Memᴰ·head (sym (eqb-true x k q))
+    go false q f rest = List·Memᴰ·tail (rest f)
+
+-- what is in two lists one behind the other is in one of them
+pub has-either : (k : ℕ) (xs ys : List ℕ) → has k (xs ++ ys) ≡ true → (has k xs ≡ true) ⊎ (has k ys ≡ true)
+has-either k xs ys e = ⊎-elim (λ m. inl (mem-has m)) (λ m. inr (mem-has m)) (List·Memᴰ·append-cases xs (has-mem k (xs ++ ys) e))
+
+-- and what is not is in neither
+pub has-neither : (k : ℕ) (xs ys : List ℕ) → has k (xs ++ ys) ≡ false → (has k xs ≡ false) × (has k ys ≡ false)
+has-neither k xs ys e = (
+  bool-false (has k xs) (λ h. false≢true (sym e ∙ mem-has (Memᴰ·append-left ys (has-mem k xs h)))),
+  bool-false (has k ys) (λ h. false≢true (sym e ∙ mem-has (Memᴰ·append-right xs (has-mem k ys h)))),
+)
 
 -- of a list in which no number stands twice, the first stands not behind itself
 pub not-again : (x : ℕ) (xs : List ℕ) → distinct (x ∷ xs) ≡ true → List·Memᴰ x xs → ⊥

@@ -62,12 +62,14 @@ unfoldable pub unranked : ℕ → Ranked
 unranked f = record { item = hole; entry = hole; fr = 0; f = f; inner = 0 }
 
 module _ (v : View) (x : ℕ) (mode : Mode) (n t : ℕ) where
-  -- what rank r makes under entry a of the working list, the select holding these items so far and f being what it is
+  -- what rank r makes under entry a of the working list, these numbers being held so far and f being what it is
   unfoldable pub rankedUnder : ℕ → ℕ → List ℕ → ℕ → Ranked
   rankedUnder a r held f = cond (eqb a hole) (unranked f) (rankOf v x mode n t held (bucketNumber a) r f .ranked)
 
+-- with the entries emitted before the select
+module _ (v : View) (x : ℕ) (mode : Mode) (n t : ℕ) (before : List ℕ) where
   unfoldable pub bareRank : ℕ → ℕ → BareRanks → BareRanks
-  bareRank a r s = bareWith mode s (rankedUnder a r (s .bare .items) (s .f))
+  bareRank a r s = bareWith mode s (rankedUnder v x mode n t a r (before ++ s .bare .items) (s .f))
 
   -- the ranks 1 to k
   unfoldable pub bareRanks : ℕ → Bare → ℕ → BareRanks
@@ -113,7 +115,7 @@ holes-more Independent k above = copies-more k _
 holes-more Through k above = copies-more k _
 holes-more FirstN k above = refl
 
-module _ (v : View) (x : ℕ) (mode : Mode) (n t : ℕ) where
+module _ (v : View) (x : ℕ) (mode : Mode) (n t : ℕ) (before : List ℕ) where
   -- one rank more, which ended in k
   with-bare : (s : Selected) (walk : List Event) (k : Ranked) (w : ℕ) → w ≡ s .tries + triesIn k
       → ranksOf (record { places = s .places ++ putOut mode (record { item = k .item; entry = k .entry; walk = walk }); f = k .f; tries = w })
@@ -125,7 +127,7 @@ module _ (v : View) (x : ℕ) (mode : Mode) (n t : ℕ) where
 
   -- the ranks under a hole
   under-hole : (above : Place) → eqb (above .entry) hole ≡ true → (s : Selected) (k : ℕ)
-      → ranksOf (record { places = s .places ++ holesUnder mode k above; f = 0; tries = s .tries }) ≡ bareRanks v x mode n t (above .entry) (bareOf s) k
+      → ranksOf (record { places = s .places ++ holesUnder mode k above; f = 0; tries = s .tries }) ≡ bareRanks v x mode n t before (above .entry) (bareOf s) k
   unfolding bareRanks bareRank rankedUnder unranked triesIn
   under-hole above e s zero = rw (holes-none mode above, append-nil (s .places))
   under-hole above e s (suc k) =
@@ -137,16 +139,16 @@ module _ (v : View) (x : ℕ) (mode : Mode) (n t : ℕ) where
 
   -- and under a bucket
   under-bucket : (above : Place) → eqb (above .entry) hole ≡ false → (s : Selected) (k : ℕ)
-      → ranksOf (ranksTo v x mode n t above s k) ≡ bareRanks v x mode n t (above .entry) (bareOf s) k
+      → ranksOf (ranksTo v x mode n t before above s k) ≡ bareRanks v x mode n t before (above .entry) (bareOf s) k
   unfolding ranksTo nextRank withRank placeUnder bareRanks bareRank rankedUnder
   under-bucket above e s zero = refl
   under-bucket above e s (suc k) =
-      let q = ranksTo v x mode n t above s k in
-      let r = rankOf v x mode n t (itemsOf (q .places)) (bucketNumber (above .entry)) (suc k) (q .f) in
+      let q = ranksTo v x mode n t before above s k in
+      let r = rankOf v x mode n t (before ++ itemsOf (q .places)) (bucketNumber (above .entry)) (suc k) (q .f) in
       with-bare q (above .walk ++ r .events) (r .ranked) _ refl ∙ rw (e, ← under-bucket above e s k)
 
   at-bare : (above : Place) (s : Selected) (b : Bool) → eqb (above .entry) hole ≡ b
-      → bareOf (selectAt v x mode n t above s b) ≡ bareRanks v x mode n t (above .entry) (bareOf s) n .bare
+      → bareOf (selectAt v x mode n t before above s b) ≡ bareRanks v x mode n t before (above .entry) (bareOf s) n .bare
   unfolding selectAt withHoles
   at-bare above s true e = ap (λ (r : BareRanks). r .bare) (under-hole above e s n)
   at-bare above s false e = ap (λ (r : BareRanks). r .bare) (under-bucket above e s n)
@@ -155,18 +157,18 @@ module _ (v : View) (x : ℕ) (mode : Mode) (n t : ℕ) where
   unfolding entriesOf nowhere
   entry-at ps k = List·getD-map (λ (p : Place). p .entry) ps k nowhere
 
-  to-bare : (ps : List Place) (k : ℕ) → bareOf (selectTo v x mode n t ps k) ≡ bareTo v x mode n t (entriesOf ps) k
+  to-bare : (ps : List Place) (k : ℕ) → bareOf (selectTo v x mode n t before ps k) ≡ bareTo v x mode n t before (entriesOf ps) k
   unfolding selectTo bareTo itemsOf entriesOf
   to-bare ps zero = refl
   to-bare ps (suc k) =
       let above = getD ps k nowhere in
-      at-bare above (selectTo v x mode n t ps k) (eqb (above .entry) hole) refl
+      at-bare above (selectTo v x mode n t before ps k) (eqb (above .entry) hole) refl
       ∙ rw (to-bare ps k, ← entry-at ps k)
 
   -- what a select holds, its entries and its tries follow from the entries of the working list
-  pub select-bare : (ps : List Place) → bareOf (selectOf v x mode n t ps) ≡ bareSelect v x mode n t (entriesOf ps)
+  pub select-bare : (ps : List Place) → bareOf (selectOf v x mode n t before ps) ≡ bareSelect v x mode n t before (entriesOf ps)
   unfolding selectOf bareSelect entriesOf
-  select-bare ps = to-bare ps (length ps) ∙ ap (bareTo v x mode n t (entriesOf ps)) (sym (length-map ps (λ (p : Place). p .entry)))
+  select-bare ps = to-bare ps (length ps) ∙ ap (bareTo v x mode n t before (entriesOf ps)) (sym (length-map ps (λ (p : Place). p .entry)))
 
 -- every list of entries is that of some places
 pub walkless : (es : List ℕ) → (ps : List Place) × (entriesOf ps ≡ es)
@@ -191,7 +193,7 @@ bareSelected s k = record { items = k .items; working = k .entries; list = s .li
 
 unfoldable pub bareAct : View → ℕ → BareRun → Action → BareRun
 bareAct v x s (Take b) = record { items = bucketItem b ∷ []; working = bucketItem b ∷ []; list = s .list; tries = s .tries }
-bareAct v x s (Select mode n t) = bareSelected s (bareSelect v x mode n t (s .working))
+bareAct v x s (Select mode n t) = bareSelected s (bareSelect v x mode n t (s .list) (s .working))
 bareAct v x s Emit = record { items = s .items; working = s .working; list = s .list ++ s .working; tries = s .tries }
 bareAct v x s Idle = s
 
@@ -208,7 +210,7 @@ module _ (v : View) (x : ℕ) where
   pub act-bare : (s : Run) (a : Action) → bareRunOf (act v x s a) ≡ bareAct v x (bareRunOf s) a
   unfolding act bareAct taken itemsOf entriesOf selected bareSelected
   act-bare s (Take b) = refl
-  act-bare s (Select mode n t) = ap (bareSelected (bareRunOf s)) (select-bare v x mode n t (s .working))
+  act-bare s (Select mode n t) = ap (bareSelected (bareRunOf s)) (select-bare v x mode n t (entriesOf (s .list)) (s .working))
   act-bare s Emit = ap (λ (l : List ℕ). record { items = itemsOf (s .working); working = entriesOf (s .working); list = l; tries = s .tries }) (map-append (λ (p : Place). p .entry) (s .list) (s .working))
   act-bare s Idle = refl
 

@@ -1,12 +1,13 @@
 -- What the code keeps of a select, as the select without its walks. Assumes nothing.
 use mathlib.Core.Path.{_≡_, refl, sym, ap, _∙_}
 use mathlib.Core.Bool.{true, false}
-use mathlib.Core.List.{List, []}
-use Prim.Native.Nat.{ℕ, _+_, _<_, _≤_}
+use mathlib.Core.List.{List, [], _∷_, _++_, append-nil, append-assoc}
+use Prim.Native.Nat.{ℕ, suc, _+_, _-_, _<_, _≤_}
+use native.Mathlib.Nat.{add-zero}
 use native.Mathlib.Omega.{arith}
 use native.Mathlib.Numerals.{add-one}
-use lib.ListN.{length, getD, take, set}
-use lib.Seq.{take-suc-set, getD-take, length-take-le}
+use lib.ListN.{length, getD, take, set, replicate}
+use lib.Seq.{take-at, set-getD, take-suc-set, getD-take, length-take-le}
 use borrow.Author.Tests.{eq-eqb, ne-eqb}
 use Rattle.definitions.specs.declared.Mode.{Mode}
 use Rattle.definitions.specs.declared.Ranked.{Ranked}
@@ -16,7 +17,7 @@ use Rattle.definitions.specs.Walk.{hole, triesIn, rankOf}
 use Rattle.laws.specs.Tries.{rank-tries}
 use Rattle.placement.specs.declared.select.Chosen.{Chosen}
 use Rattle.placement.specs.Entries.{same-at}
-use Rattle.placement.specs.Bare.{Bare, BareRanks, leftOut, putBehind, bareWith, unranked, rankedUnder, bareRank, bareRanks, bareTo, bareSelect}
+use Rattle.placement.specs.Bare.{Bare, BareRanks, leftOut, putBehind, bareWith, unranked, rankedUnder, bareRank, bareRanks, bareTo, bareSelect, filledUp}
 
 -- the places put out are the first of the two arrays
 abbrev pub bareIn : Chosen → Bare
@@ -64,35 +65,70 @@ module _ (mode : Mode) (c : Chosen) (f : ℕ) (k : Ranked) (w : ℕ) (e : w ≡ 
   unfolding bareWith putBehind
   put-place h i j = rw (h, e, add-one (c .len), take-suc-set (c .items) (c .len) (k .item) i, take-suc-set (c .entries) (c .len) (k .entry) j)
 
+-- ---- what is held: the entries emitted before the select, and behind them the items of its places
+
+held-front : (before held : List ℕ) → held ≡ filledUp 48 before → take (length before) held ≡ before
+unfolding filledUp
+held-front before held e = rw e (take-at before (replicate (48 - length before) hole) (length before) refl)
+
+-- the entries emitted are the first of an array
+pub held-list : (list : List ℕ) (a : ℕ) (held : List ℕ) → a ≤ length list → held ≡ filledUp 48 (take a list) → take a held ≡ take a list
+held-list list a held h e = ap (λ (k : ℕ). take k held) (sym (length-take-le a list h)) ∙ held-front (take a list) held e
+
+-- no place yet
+pub held-none : (before held items : List ℕ) (a : ℕ) → take a held ≡ before → take (a + 0) held ≡ before ++ take 0 items
+held-none before held items a e = rw (add-zero a, append-nil before) e
+
+pub held-start : (before held items : List ℕ) → held ≡ filledUp 48 before → take (length before + 0) held ≡ before ++ take 0 items
+held-start before held items e = held-none before held items (length before) (held-front before held e)
+
+-- one place more
+pub held-more : (before held items : List ℕ) (a m i : ℕ) → take (a + m) held ≡ before ++ take m items → a + m < length held → m < length items
+    → take (a + (m + 1)) (set held (a + m) i) ≡ before ++ take (m + 1) (set items m i)
+held-more before held items a m i e h l =
+    let q : a + (m + 1) ≡ suc (a + m) = omega arith in
+    rw (q, add-one m, take-suc-set held (a + m) i h, take-suc-set items m i l, e) (append-assoc before (take m items) (i ∷ []))
+
+-- and where the items are there already
+pub held-next : (before held items : List ℕ) (a m : ℕ) → take (a + m) held ≡ before ++ take m items → a + m < length held → m < length items
+    → take (a + (m + 1)) (set held (a + m) (getD items m 0)) ≡ before ++ take (m + 1) items
+held-next before held items a m e h l =
+    held-more before held items a m (getD items m 0) e h l ∙ ap (λ (is : List ℕ). before ++ take (m + 1) is) (set-getD items m 0)
+
+-- a rank against what is held
+pub held-ranked : (v : View) (x : ℕ) (mode : Mode) (n t a r f : ℕ) (held ns : List ℕ) (k : Ranked) → held ≡ ns → k ≡ rankedUnder v x mode n t a r held f
+    → k ≡ rankedUnder v x mode n t a r ns f
+held-ranked v x mode n t a r f held ns k e q = q ∙ ap (λ (h : List ℕ). rankedUnder v x mode n t a r h f) e
+
 -- ---- loops over the ranks and over the working list
 
-module _ (v : View) (x : ℕ) (mode : Mode) (n t : ℕ) where
+module _ (v : View) (x : ℕ) (mode : Mode) (n t : ℕ) (before : List ℕ) where
   -- no rank yet, and one more
-  pub ranks-start : (a : ℕ) (s : Bare) → record { bare = s; f = 0 } ≡ bareRanks v x mode n t a s 0
+  pub ranks-start : (a : ℕ) (s : Bare) → record { bare = s; f = 0 } ≡ bareRanks v x mode n t before a s 0
   unfolding bareRanks
   ranks-start a s = refl
 
-  pub ranks-more : (a : ℕ) (s : Bare) (r : ℕ) (c d : BareRanks) (k : Ranked) → c ≡ bareRanks v x mode n t a s r
-      → k ≡ rankedUnder v x mode n t a (r + 1) (c .bare .items) (c .f) → d ≡ bareWith mode c k → d ≡ bareRanks v x mode n t a s (r + 1)
+  pub ranks-more : (a : ℕ) (s : Bare) (r : ℕ) (c d : BareRanks) (k : Ranked) → c ≡ bareRanks v x mode n t before a s r
+      → k ≡ rankedUnder v x mode n t a (r + 1) (before ++ c .bare .items) (c .f) → d ≡ bareWith mode c k → d ≡ bareRanks v x mode n t before a s (r + 1)
   unfolding bareRanks bareRank
   ranks-more a s r c d k e g q = rw (add-one r, ← e) (q ∙ ap (bareWith mode c) (rw (add-one r) at g))
 
   -- no entry of the working list yet, one more, and all
-  pub to-start : (working : List ℕ) → record { items = []; entries = []; tries = 0 } ≡ bareTo v x mode n t working 0
+  pub to-start : (working : List ℕ) → record { items = []; entries = []; tries = 0 } ≡ bareTo v x mode n t before working 0
   unfolding bareTo
   to-start working = refl
 
   pub to-more : (working : List ℕ) (len i r : ℕ) (d : BareRanks) → i < len → len ≤ length working → r ≡ n
-      → d ≡ bareRanks v x mode n t (getD working i 0) (bareTo v x mode n t (take len working) i) r
-      → d .bare ≡ bareTo v x mode n t (take len working) (i + 1)
+      → d ≡ bareRanks v x mode n t before (getD working i 0) (bareTo v x mode n t before (take len working) i) r
+      → d .bare ≡ bareTo v x mode n t before (take len working) (i + 1)
   unfolding bareTo
   to-more working len i r d h l e q =
-      let s = bareTo v x mode n t (take len working) i in
+      let s = bareTo v x mode n t before (take len working) i in
       let at : getD (take len working) i hole ≡ getD working i 0 = getD-take len working i hole h ∙ same-at working i hole 0 (omega arith) in
       rw (add-one i)
-      (ap (λ (z : BareRanks). z .bare) (q ∙ ap (bareRanks v x mode n t (getD working i 0) s) e) ∙ ap (λ (a : ℕ). bareRanks v x mode n t a s n .bare) (sym at))
+      (ap (λ (z : BareRanks). z .bare) (q ∙ ap (bareRanks v x mode n t before (getD working i 0) s) e) ∙ ap (λ (a : ℕ). bareRanks v x mode n t before a s n .bare) (sym at))
 
-  pub to-all : (working : List ℕ) (len i : ℕ) (d : Bare) → i ≡ len → len ≤ length working → d ≡ bareTo v x mode n t (take len working) i
-      → d ≡ bareSelect v x mode n t (take len working)
+  pub to-all : (working : List ℕ) (len i : ℕ) (d : Bare) → i ≡ len → len ≤ length working → d ≡ bareTo v x mode n t before (take len working) i
+      → d ≡ bareSelect v x mode n t before (take len working)
   unfolding bareSelect
-  to-all working len i d e l q = q ∙ ap (bareTo v x mode n t (take len working)) (e ∙ sym (length-take-le len working l))
+  to-all working len i d e l q = q ∙ ap (bareTo v x mode n t before (take len working)) (e ∙ sym (length-take-le len working l))

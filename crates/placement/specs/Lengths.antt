@@ -22,21 +22,21 @@ one-more mode e is i = go (leftOut mode e)
     go true = omega arith
     go false = omega (arith, length-append is (i ∷ []))
 
-module _ (v : View) (x : ℕ) (mode : Mode) (n t : ℕ) where
-  ranks-most : (a : ℕ) (s : Bare) (k : ℕ) → length (bareRanks v x mode n t a s k .bare .entries) ≤ length (s .entries) + k
+module _ (v : View) (x : ℕ) (mode : Mode) (n t : ℕ) (before : List ℕ) where
+  ranks-most : (a : ℕ) (s : Bare) (k : ℕ) → length (bareRanks v x mode n t before a s k .bare .entries) ≤ length (s .entries) + k
   unfolding bareRanks bareRank bareWith
   ranks-most a s zero = omega arith
   ranks-most a s (suc k) =
-      let q = bareRanks v x mode n t a s k in
-      let r = rankedUnder v x mode n t a (suc k) (q .bare .items) (q .f) in
+      let q = bareRanks v x mode n t before a s k in
+      let r = rankedUnder v x mode n t a (suc k) (before ++ q .bare .items) (q .f) in
       omega (arith, one-more mode (r .entry) (q .bare .entries) (r .entry), ranks-most a s k)
 
-  to-most : (ws : List ℕ) (k : ℕ) → length (bareTo v x mode n t ws k .entries) ≤ k * n
+  to-most : (ws : List ℕ) (k : ℕ) → length (bareTo v x mode n t before ws k .entries) ≤ k * n
   unfolding bareTo
   to-most ws zero = omega arith
-  to-most ws (suc k) = omega (arith, ranks-most (getD ws k hole) (bareTo v x mode n t ws k) n, to-most ws k)
+  to-most ws (suc k) = omega (arith, ranks-most (getD ws k hole) (bareTo v x mode n t before ws k) n, to-most ws k)
 
-  select-most : (ws : List ℕ) → length (bareSelect v x mode n t ws .entries) ≤ length ws * n
+  select-most : (ws : List ℕ) → length (bareSelect v x mode n t before ws .entries) ≤ length ws * n
   unfolding bareSelect
   select-most ws = to-most ws (length ws)
 
@@ -45,7 +45,7 @@ module _ (v : View) (x : ℕ) where
       → (length (bareAct v x s a .working) ≤ productAfter p a) × (length (bareAct v x s a .list) ≤ e + addedBy p a)
   unfolding bareAct bareSelected productAfter addedBy
   act-most s (Take b) p e h g = (omega arith, omega arith)
-  act-most s (Select mode n t) p e h g = (le-trans (select-most v x mode n t (s .working)) (mul-le-mul-right n h), omega arith)
+  act-most s (Select mode n t) p e h g = (le-trans (select-most v x mode n t (s .list) (s .working)) (mul-le-mul-right n h), omega arith)
   act-most s Emit p e h g = (h, omega (arith, length-append (s .list) (s .working)))
   act-most s Idle p e h g = (h, omega arith)
 

@@ -57,7 +57,7 @@ module _ (v : View) (x : ℕ) (p : Progress) where
   unfolding bareAct
   run-take b i g h e = rw (take-suc-set (p .items) 0 i g, take-suc-set (p .working) 0 i h, e)
 
-  pub run-select : (mode : Mode) (n t : ℕ) (k : Bare) → k ≡ bareSelect v x mode n t (take (p .len) (p .working))
+  pub run-select : (mode : Mode) (n t : ℕ) (k : Bare) → k ≡ bareSelect v x mode n t (take (p .emitted) (p .list)) (take (p .len) (p .working))
       → record { items = k .items; working = k .entries; list = take (p .emitted) (p .list); tries = p .tries + k .tries } ≡ bareAct v x (runIn p) (Select mode n t)
   unfolding bareAct bareSelected
   run-select mode n t k e = ap (λ (b : Bare). record { items = b .items; working = b .entries; list = take (p .emitted) (p .list); tries = p .tries + b .tries }) e

@@ -4,6 +4,7 @@ use mathlib.Core.List.{List, [], _∷_, _++_, append-nil}
 use Prim.Native.Nat.{ℕ, zero, suc, _+_, _-_, _<_, _≤_}
 use native.Mathlib.Omega.{arith}
 use lib.ListN.{length, getD, take, drop, set, replicate, length-append, length-replicate, getD-replicate, drop-of-length-le}
+use lib.Seq.{paste, take-all}
 use Rattle.definitions.specs.Walk.{hole}
 use Rattle.laws.specs.Lists.{front-more, front-all}
 use Rattle.placement.specs.Bare.{BareRun, filledUp}
@@ -35,6 +36,18 @@ module _ (es t : List ℕ) (h : length es ≤ length t) where
       let f = filledUp (length t) es in
       let k = length-filled (length t) es h in
       q ∙ front-all f t i (omega (arith, k)) ∙ ap (λ (l : List ℕ). f ++ l) (drop-of-length-le t {i = length f} (omega (arith, k))) ∙ append-nil f
+
+-- a list over the front of w holes
+pub paste-holes : (w : ℕ) (es : List ℕ) → paste (replicate w hole) 0 es (length es) ≡ filledUp w es
+unfolding filledUp
+paste-holes w es =
+    let z : 0 + length es ≡ length es = omega arith in
+    rw (z, take-all (length es) es (omega arith), holes-behind (length es) w)
+  where
+    holes-behind : (n o : ℕ) → drop n (replicate o hole) ≡ replicate (o - n) hole
+    holes-behind zero o = let z : o ≡ o - 0 = omega arith in ap (λ (k : ℕ). replicate k hole) z
+    holes-behind (suc n) zero = let z : 0 ≡ 0 - suc n = omega arith in ap (λ (k : ℕ). replicate k hole) z
+    holes-behind (suc n) (suc o) = let z : o - n ≡ suc o - suc n = omega arith in holes-behind n o ∙ ap (λ (k : ℕ). replicate k hole) z
 
 -- a row that holds the list of s holds that of r, which is s, and their tries are the same
 pub row-of : (w : ℕ) (row : List ℕ) (s r : BareRun) → s ≡ r → row ≡ filledUp w (s .list) → (row ≡ filledUp w (r .list)) × (s .tries ≡ r .tries)

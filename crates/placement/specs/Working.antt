@@ -42,15 +42,15 @@ Small e = e < 65536
 
 -- ---- the entries of a select
 
-pub select-entries : {plan : List ℕ} → Sound plan → (values : List ℕ) (x : ℕ) (mode : Mode) (n t : ℕ) (working : List ℕ)
-    → Each (Entry plan (reaches mode t)) (bareSelect (viewIn plan values) x mode n t working .entries)
-select-entries {plan} sound values x mode n t working =
+pub select-entries : {plan : List ℕ} → Sound plan → (values : List ℕ) (x : ℕ) (mode : Mode) (n t : ℕ) (before working : List ℕ)
+    → Each (Entry plan (reaches mode t)) (bareSelect (viewIn plan values) x mode n t before working .entries)
+select-entries {plan} sound values x mode n t before working =
     let v = viewIn plan values in
     let u = reaches mode t in
     let (ps, e) = walkless working in
-    subst (λ (b : Bare). Each (Entry plan u) (b .entries)) (select-bare v x mode n t ps ∙ ap (bareSelect v x mode n t) e)
-    (each-entry (Entry plan u) (selectOf v x mode n t ps .places)
-    (λ p i. ⊎-elim (λ q. inl q) (λ ((r, b, d), q). inr (winner-range sound values x r b (p .entry) d, q)) (select-found v x mode n t ps p i)))
+    subst (λ (b : Bare). Each (Entry plan u) (b .entries)) (select-bare v x mode n t before ps ∙ ap (bareSelect v x mode n t before) e)
+    (each-entry (Entry plan u) (selectOf v x mode n t before ps .places)
+    (λ p i. ⊎-elim (λ q. inl q) (λ ((r, b, d), q). inr (winner-range sound values x r b (p .entry) d, q)) (select-found v x mode n t before ps p i)))
 
 -- ---- the lists of a run
 

@@ -72,7 +72,7 @@ fn selected<'a>(
     let list = p.list;
     let working = p.working;
     let wanted = Wanted { mode, n, t };
-    let c = select::select(plan, values, x, working, p.len, wanted);
+    let c = select::select(plan, values, x, &list[..p.emitted], working, p.len, wanted);
     let items = c.items;
     let entries = c.entries;
     Progress {

@@ -1,2 +1,3 @@
 pub mod Samples
 pub mod Libcrush
+pub mod Blocks

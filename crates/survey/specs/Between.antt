@@ -21,7 +21,7 @@ use Rattle.definitions.specs.Calls.{notFirstN, independent, fresh}
 use Rattle.laws.specs.Loadable.{Loadable, ranged-is}
 use Rattle.hierarchy.specs.declared.Rule.{Rule}
 use Rattle.hierarchy.specs.Arrays.{viewIn, actionsIn}
-use Rattle.tracing.specs.Listed as listed
+use Rattle.tracing.specs.Runs as runs
 use Rattle.tracing.specs.Listed.{table-more, placed-list, placed-width}
 use Rattle.survey.specs.declared.surveys.Findings.{Findings}
 use Rattle.survey.specs.Places.{listAt, placesAt}
@@ -61,7 +61,7 @@ module _ (m : Map) (plan values : List ℕ) (rule : Rule) (w : ℕ) (a : viewOf 
   places-placed x = ap₂ padded (sym d) (runs-alike _ _ _ _ _ x a b c)
 
   list-long : Loadable m → independent m ≡ true → (x : ℕ) → length (listAt plan values rule x) ≡ w
-  unfolding listed.listAt
+  unfolding runs.listAt
   list-long L i x = ap length (runs-alike _ _ _ _ _ x a b c ∙ sym (placed-list m x L i)) ∙ placed-width m x L i ∙ d
 
 module _ (m : Map) (f : ℕ → List Place) (is : Gives m f) where

@@ -177,8 +177,8 @@ module _ (m : Map) (c : Change) (x : ℕ) where
   cause-is ind (stays {k} {p} {cause} e q) l = cause-stays k p cause e (cause-is ind q (count-stays k p e l))
   cause-is ind (accept e h w) l = accept-cause w (here-at h)
   cause-is ind (drawn h f w) l = draw-cause (here-at h) f
-  cause-is ind (held-old {w} h f o g n q) l = held-cause w f (here-at h)
-  cause-is ind (held-new {u} h f o g n q) l = cause-held u f (here-at h)
+  cause-is ind (held-old {w} h f o g q) l = held-cause w f (here-at h)
+  cause-is ind (held-new {u} h f o g q) l = cause-held u f (here-at h)
 
   -- a place is the same in both runs, entry and walk, or its walks part with a cause that is traced
   pub place-parts : Loadable m → independent m ≡ true → fits m c ≡ true → (k p : ℕ) → p < length (workingAt m x k)

@@ -1,7 +1,7 @@
 -- What a place holds: in an independent select its item is its entry, so that there cause 03 speaks of entries. Assumes nothing.
 use mathlib.Core.Path.{_≡_, refl}
 use mathlib.Core.Bool.{Bool, true, false, cond}
-use mathlib.Core.List.{List}
+use mathlib.Core.List.{List, _++_}
 use Prim.Native.Nat.{ℕ, zero, suc, _/_, _%_, _+_, _<_}
 use native.Mathlib.Decide.{decLt}
 use native.Mathlib.Omega.{arith}
@@ -21,8 +21,8 @@ use Rattle.definitions.specs.declared.Verdict.the-variants.{Held, Rejected, Pas
 use Rattle.definitions.specs.Map.{Map, bucketNumber}
 use Rattle.definitions.specs.View.{View, viewOf}
 use Rattle.definitions.specs.Walk.{RankEvents, descend, plain, plainTest, tryNumber, rankStart, rankEnd, onVerdict, onTried, tested, untested, onward, afterTurn, onTurn, onType, onLanded, onDescent, turnOf, rankFrom, rankBy, testOf, rankOf, verdictOf}
-use Rattle.definitions.specs.Select.{Place, itemsOf, placeUnder, nowhere}
-use Rattle.tracing.specs.Runs.{leaves, noRank, rankUnder, stepAt, workingAt, placeAt, step-place, place-past}
+use Rattle.definitions.specs.Select.{Place, entriesOf, itemsOf, placeUnder, nowhere}
+use Rattle.tracing.specs.Runs.{leaves, noRank, rankUnder, stepAt, workingAt, listAt, placeAt, step-place, place-past}
 
 -- what a turn fills the place with is the item itself
 abbrev Itself : Turn → Type 0
@@ -93,5 +93,5 @@ item-entry m x k n t p e = go (decLt p (length (workingAt m x (suc k))))
     go (yes h) =
         let up = placeAt m x k (p / n) in
         same (placeAt m x (suc k) p) _ (step-place m x k Independent n t e refl p h)
-        (under-itself (viewOf m) x n t (itemsOf (take p (workingAt m x (suc k)))) up (p % n + 1))
+        (under-itself (viewOf m) x n t (entriesOf (listAt m x k) ++ itemsOf (take p (workingAt m x (suc k)))) up (p % n + 1))
     go (no f) = same (placeAt m x (suc k) p) nowhere (place-past m x (suc k) p (omega arith)) refl

@@ -25,13 +25,9 @@ use Rattle.definitions.specs.Calls.{notFirstN, independent}
 use Rattle.laws.specs.Lists.{getD-mapped}
 use Rattle.laws.specs.Loadable.{Loadable, in-blocks}
 use Rattle.laws.specs.Blocks.{InOrder, takes, selects, emits, length-actions, step-inside, step-in-order}
-use Rattle.tracing.specs.Runs.{leaves, stepAt, runAt, workingAt, placeAt, run-step, working-take, working-stays, step-count, independent-at, steps-same, count-same}
+use Rattle.tracing.specs.Runs.{leaves, stepAt, workingAt, listAt, placeAt, run-step, working-take, working-stays, step-count, independent-at, steps-same, count-same}
 
 -- ---- the list so far
-
--- what group x has emitted after k steps
-unfoldable pub listAt : Map → ℕ → ℕ → List Place
-listAt m x k = runAt m x k .list
 
 -- place j of the list of group x is place p of the working list that step k emits
 pub record Emitted (m : Map) (x j k p : ℕ) : Type 0 where
@@ -62,7 +58,7 @@ emits-or Idle = inr (λ e. let z : _≡_ {A = ℕ} 0 1 = cc in omega arith)
 
 module _ (m : Map) (x : ℕ) where
   -- each place of the list is one that an emit has appended
-  listed-from : (l j : ℕ) → j < length (listAt m x l) → (k : ℕ) × (p : ℕ) × (k < l) × Emitted m x j k p
+  pub listed-from : (l j : ℕ) → j < length (listAt m x l) → (k : ℕ) × (p : ℕ) × (k < l) × Emitted m x j k p
   unfolding listAt runTo
   listed-from zero j h = absurd (omega arith)
   listed-from (suc l) j h = go (emits-or (stepAt m l)) (decLt j (length (listAt m x l))) (listed-from l j)
@@ -90,7 +86,7 @@ module _ (m : Map) (x : ℕ) where
       go (inr f) = ([], list-stays m x k (stepAt m k) refl f ∙ sym (append-nil (listAt m x k)))
 
   -- place j of the list after l steps is place p of the working list after k
-  abbrev Stands : ℕ → ℕ → ℕ → ℕ → Type 0
+  abbrev pub Stands : ℕ → ℕ → ℕ → ℕ → Type 0
   Stands l j k p = (j < length (listAt m x l)) × (getD (listAt m x l) j nowhere ≡ placeAt m x k p)
 
   stands-now : (j k p : ℕ) → Emitted m x j k p → Stands (suc k) j k p
@@ -109,11 +105,22 @@ module _ (m : Map) (x : ℕ) where
       )
 
   -- and what an emit has appended stands there as it was
-  list-place : (l j k p : ℕ) → k < l → Emitted m x j k p → Stands l j k p
+  pub list-place : (l j k p : ℕ) → k < l → Emitted m x j k p → Stands l j k p
   list-place zero j k p h E = absurd (omega arith)
   list-place (suc l) j k p h E =
       ⊎-elim (λ (q : k ≡ l). subst (λ o. Stands (suc o) j k p) q (stands-now j k p E))
       (λ (g : k < l). stands-on l j k p (list-place l j k p g E)) (eq-or-lt-of-le (omega arith))
+
+  -- a place of the list comes from one place
+  pub emitted-one : (j k p l q : ℕ) → Emitted m x j k p → Emitted m x j l q → (k ≡ l) × (p ≡ q)
+  emitted-one j k p l q E F = go (decLt k l) (decLt l k)
+    where
+      go : Dec (k < l) → Dec (l < k) → (k ≡ l) × (p ≡ q)
+      go (yes h) d = absurd (omega (arith, list-place l j k p h E .0, F .place))
+      go (no f) (yes h) = absurd (omega (arith, list-place k j l q h F .0, E .place))
+      go (no f) (no g) =
+          let z : k ≡ l = omega arith in
+          (z, omega (arith, E .place, F .place, ap (λ (o : ℕ). length (listAt m x o)) z))
 
 -- ---- W places
 

@@ -27,7 +27,7 @@ use Rattle.definitions.specs.Lists.{has}
 use Rattle.definitions.specs.Map.{Map, bucketNumber, actionsOf}
 use Rattle.definitions.specs.View.{View, viewOf}
 use Rattle.definitions.specs.Walk.{hole, RankEvents, descend, tryNumber, failedTo, retryAt, rankStart, rankEnd, onVerdict, Trial, onTried, tested, untested, onward, afterTurn, onTurn, onType, onLanded, onDescent, turnOf, rankFrom, rankBy, testOf, rankOf}
-use Rattle.definitions.specs.Select.{Place, Selected, itemsOf, placeUnder, putOut, holesUnder, nowhere, withRank, nextRank, ranksTo, withHoles, selectAt, selectTo, selectOf}
+use Rattle.definitions.specs.Select.{Place, Selected, entriesOf, itemsOf, placeUnder, putOut, holesUnder, nowhere, withRank, nextRank, ranksTo, withHoles, selectAt, selectTo, selectOf}
 use Rattle.definitions.specs.Rule.{Run, taken, selected, act, runTo}
 use Rattle.definitions.specs.Calls.{notFirstN, independent}
 use Rattle.laws.specs.Lists.{every-at}
@@ -120,12 +120,12 @@ holes-are FirstN e n above = absurd (false≢true e)
 holes-are Independent e n above = refl
 holes-are Through e n above = refl
 
-module _ (v : View) (x : ℕ) (mode : Mode) (n t : ℕ) (working : List Place) where
-  -- the place p that a select puts out over a working list, after the places before it: under the place p / n, at rank p % n + 1
+module _ (v : View) (x : ℕ) (mode : Mode) (n t : ℕ) (before : List ℕ) (working : List Place) where
+  -- the place p that a select puts out over a working list, after the places ps of its own: under the place p / n, at rank p % n + 1
   unfoldable pub placeAfter : List Place → ℕ → Place
-  placeAfter before p =
+  placeAfter ps p =
       let above = getD working (p / n) nowhere in
-      placeUnder above (rankUnder v x mode n t (itemsOf before) above (p % n + 1))
+      placeUnder above (rankUnder v x mode n t (before ++ itemsOf ps) above (p % n + 1))
 
   -- each place stands as it was put out after those before it
   abbrev Made : List Place → Type 0
@@ -142,7 +142,7 @@ module _ (v : View) (x : ℕ) (mode : Mode) (n t : ℕ) (working : List Place) w
 
   -- under the place k of the working list, at rank j + 1
   under-is : (ps : List Place) (k j : ℕ) → j < n
-      → placeAfter ps (k * n + j) ≡ placeUnder (getD working k nowhere) (rankUnder v x mode n t (itemsOf ps) (getD working k nowhere) (j + 1))
+      → placeAfter ps (k * n + j) ≡ placeUnder (getD working k nowhere) (rankUnder v x mode n t (before ++ itemsOf ps) (getD working k nowhere) (j + 1))
   unfolding placeAfter
   under-is ps k j h =
       let d : (k * n + j) / n ≡ k = mul-add-div-right (omega arith) k j ∙ rw (div-eq-of-lt h) (add-zero k) in
@@ -166,12 +166,12 @@ module _ (v : View) (x : ℕ) (mode : Mode) (n t : ℕ) (working : List Place) w
     up = getD working k nowhere
 
     flat-ranks : (s : Selected) → eqb (up .entry) hole ≡ false → Flat (k * n) (s .places) → (j : ℕ) → j ≤ n
-        → Flat (k * n + j) (ranksTo v x mode n t up s j .places)
+        → Flat (k * n + j) (ranksTo v x mode n t before up s j .places)
     unfolding ranksTo nextRank withRank placeUnder rankUnder rankOf
     flat-ranks s e F zero h = rw (add-zero (k * n)) F
     flat-ranks s e F (suc j) h =
-        let o = ranksTo v x mode n t up s j in
-        let q = rank-alike v x mode n t (testOf mode v x n (itemsOf (o .places))) (bucketNumber (up .entry)) (suc j) lv (o .f) 0 in
+        let o = ranksTo v x mode n t before up s j in
+        let q = rank-alike v x mode n t (testOf mode v x n (before ++ itemsOf (o .places))) (bucketNumber (up .entry)) (suc j) lv (o .f) 0 in
         rw (add-suc (k * n) j, out-one mode lv)
         (flat-more (k * n + j) (o .places) _ (flat-ranks s e F j (omega arith))
         ((λ i. record { item = q .0 i; entry = q .1 i; walk = up .walk ++ q .2 i }) ∙ sym (under-is (o .places) k j (omega arith) ∙ rw (e, add-one j))))
@@ -189,24 +189,24 @@ module _ (v : View) (x : ℕ) (mode : Mode) (n t : ℕ) (working : List Place) w
         (flat-more (k * n + i) ps a F ((λ l. record { item = hole; entry = hole; walk = sym (append-nil (up .walk)) l }) ∙ sym (under-is ps k i (omega arith) ∙ rw e)))))
 
     flat-at : (s : Selected) → Flat (k * n) (s .places) → (b : Bool) → eqb (up .entry) hole ≡ b
-        → Flat (suc k * n) (selectAt v x mode n t up s b .places)
+        → Flat (suc k * n) (selectAt v x mode n t before up s b .places)
     unfolding selectAt withHoles
     flat-at s F true e = let q : k * n + (0 + n) ≡ suc k * n = omega arith in rw (← q, holes-are mode lv) (flat-holes e n 0 (s .places) (omega arith) (rw (add-zero (k * n)) F))
     flat-at s F false e = let q : k * n + n ≡ suc k * n = omega arith in rw (← q) (flat-ranks s e F n (omega arith))
 
-  flat-to : leaves mode ≡ true → (k : ℕ) → Flat (k * n) (selectTo v x mode n t working k .places)
+  flat-to : leaves mode ≡ true → (k : ℕ) → Flat (k * n) (selectTo v x mode n t before working k .places)
   unfolding selectTo
   flat-to lv zero = record { count = omega arith; made = λ p h. absurd (omega arith) }
-  flat-to lv (suc k) = flat-at lv k (selectTo v x mode n t working k) (flat-to lv k) (eqb (getD working k nowhere .entry) hole) refl
+  flat-to lv (suc k) = flat-at lv k (selectTo v x mode n t before working k) (flat-to lv k) (eqb (getD working k nowhere .entry) hole) refl
 
   -- a select puts out n places for each of the working list
-  pub select-count : leaves mode ≡ true → length (selectOf v x mode n t working .places) ≡ length working * n
+  pub select-count : leaves mode ≡ true → length (selectOf v x mode n t before working .places) ≡ length working * n
   unfolding selectOf
   select-count lv = flat-to lv (length working) .count
 
   -- each of them as it was made after those before it
   pub select-place : leaves mode ≡ true → (p : ℕ) → p < length working * n
-      → getD (selectOf v x mode n t working .places) p nowhere ≡ placeAfter (take p (selectOf v x mode n t working .places)) p
+      → getD (selectOf v x mode n t before working .places) p nowhere ≡ placeAfter (take p (selectOf v x mode n t before working .places)) p
   unfolding selectOf
   select-place lv p h = flat-to lv (length working) .made p (rw (flat-to lv (length working) .count) h)
 
@@ -252,7 +252,11 @@ runAt m x k = runTo (viewOf m) x (actionsOf m) k
 unfoldable pub workingAt : Map → ℕ → ℕ → List Place
 workingAt m x k = runAt m x k .working
 
--- and the place p of that
+-- what it has emitted
+unfoldable pub listAt : Map → ℕ → ℕ → List Place
+listAt m x k = runAt m x k .list
+
+-- and the place p of the working list
 unfoldable pub placeAt : Map → ℕ → ℕ → ℕ → Place
 placeAt m x k p = getD (workingAt m x k) p nowhere
 
@@ -269,8 +273,8 @@ module _ (m : Map) (x k : ℕ) where
 
   -- a select
   pub working-select : (mode : Mode) (n t : ℕ) → stepAt m k ≡ Select mode n t
-      → workingAt m x (suc k) ≡ selectOf (viewOf m) x mode n t (workingAt m x k) .places
-  unfolding workingAt act selected
+      → workingAt m x (suc k) ≡ selectOf (viewOf m) x mode n t (entriesOf (listAt m x k)) (workingAt m x k) .places
+  unfolding workingAt listAt act selected
   working-select mode n t e = ap (λ (s : Run). s .working) (run-step (Select mode n t) e)
 
   -- an emit, or no step at all, leaves the working list
@@ -287,14 +291,15 @@ module _ (m : Map) (x k : ℕ) where
   module _ (mode : Mode) (n t : ℕ) (e : stepAt m k ≡ Select mode n t) (lv : leaves mode ≡ true) where
     -- after a select that leaves holes the working list has n times the length
     pub step-count : length (workingAt m x (suc k)) ≡ length (workingAt m x k) * n
-    step-count = rw (working-select mode n t e) (select-count (viewOf m) x mode n t (workingAt m x k) lv)
+    step-count = rw (working-select mode n t e) (select-count (viewOf m) x mode n t (entriesOf (listAt m x k)) (workingAt m x k) lv)
 
-    -- and its place p is made under the place p / n before it, at rank p % n + 1, with the items of the first p places held
+    -- and its place p is made under the place p / n before it, at rank p % n + 1; held are the entries emitted so far and the items of the
+    -- first p places
     pub step-place : (p : ℕ) → p < length (workingAt m x (suc k))
         → let up = placeAt m x k (p / n) in
-        placeAt m x (suc k) p ≡ placeUnder up (rankUnder (viewOf m) x mode n t (itemsOf (take p (workingAt m x (suc k)))) up (p % n + 1))
+        placeAt m x (suc k) p ≡ placeUnder up (rankUnder (viewOf m) x mode n t (entriesOf (listAt m x k) ++ itemsOf (take p (workingAt m x (suc k)))) up (p % n + 1))
     unfolding placeAt placeAfter
-    step-place p h = rw (working-select mode n t e) (select-place (viewOf m) x mode n t (workingAt m x k) lv p (omega (arith, step-count)))
+    step-place p h = rw (working-select mode n t e) (select-place (viewOf m) x mode n t (entriesOf (listAt m x k)) (workingAt m x k) lv p (omega (arith, step-count)))
 
     -- a place stands under one of the working list before it
     pub step-above : (p : ℕ) → p < length (workingAt m x (suc k)) → p / n < length (workingAt m x k)

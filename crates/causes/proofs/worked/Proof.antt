@@ -63,7 +63,7 @@ causes-of-requires c κs =
     let d = f .2 in
     let o = leads-old k in (
       s .pre .0 .0,
-      (d .0, d .1, d .4, o .1 .0, workable-above (p .old .working) (p .old .len) _ (s .args .o .len) (omega (arith, lengths s .0, f .0 .0)) (d .3) (o .2 .len)),
+      (d .0, d .1, d .4, o .1 .0, f .0 .1, g .0 .1, workable-above (p .old .working) (p .old .len) _ (s .args .o .len) (omega (arith, lengths s .0, f .0 .0)) (d .3) (o .2 .len)),
     )
 
 enum-told-2 : tie.Need-enum-told-2
