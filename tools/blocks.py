@@ -78,7 +78,7 @@ def shelves(gen, rng, step):
 
 def emptied(gen, rng, step):
     """Through cabinets, most of which have one drive, after some drives have been emitted."""
-    doc = gen.cabinets(rng, rng.choice((2, 3)), [1, 1, 1, 2], 1)
+    doc = gen.cabinets(rng, 3, [1, 1, 1, 2], 1, levels=rng.choice((1, 2)))
     return doc, gen.block(9, (step, rng.choice((1, 1, 2)), 0)) + gen.block(9, (5, rng.choice((1, 2)), 1))
 
 
@@ -86,8 +86,8 @@ SHAPES = (one_bucket, cabinets, shelves, emptied)
 
 
 def altered(crush, gen, rng, index, each, groups):
-    """A map whose table change 5 alters, as the generator and as load have it. Its shape goes by the index, and of so many maps of a shape the last
-    selects first-n. Some of the drives take less than all."""
+    """A map whose table change 5, which has to count, alters, as the generator and as load have it. Its shape goes by the index, and of so many maps
+    of a shape the last selects first-n. Some of the drives take less than all."""
     turn, shape = divmod(index, len(SHAPES))
     step = crush.FIRSTN if turn % each == each - 1 else crush.INDEP
     while True:
@@ -102,7 +102,7 @@ def altered(crush, gen, rng, index, each, groups):
 
 
 def possible_edits(rng, mp):
-    """Edits of a map's drives, in any order: those that take none, all, half the weight, no weight or four times as much."""
+    """Edits of a map's drives, in any order: a drive takes none or all; it has no weight, half or four times as much."""
     lines = []
     for drive, (weight, acceptance) in mp.devices.items():
         lines += [b"21%04x%08x" % (drive, value) for value in (0, 65536) if value != acceptance]
@@ -111,11 +111,11 @@ def possible_edits(rng, mp):
     return lines
 
 
-def telling_edits(crush, rng, mp, count, each=12):
-    """So many edits, one after another. Each is the first of some with a cause 03 that leads to an earlier block, or the last of them."""
+def telling_edits(crush, rng, mp, count):
+    """So many edits, one after another. Each is the first of twelve with a cause 03 that leads to an earlier block, or the last of them."""
     table, lines = crush.fresh_fill(mp), []
     for _ in range(count):
-        for line in possible_edits(rng, mp)[:each]:
+        for line in possible_edits(rng, mp)[:12]:
             crush.STATS.clear()
             done = crush.edit(mp, table, line, crush.MOVE_BYTES * len(table), False)
             if crush.STATS["parting 03, held by an earlier block"]:

@@ -8,7 +8,6 @@ use native.Mathlib.Omega.{arith}
 use lib.ListN.{length, getD}
 use Rattle.definitions.specs.declared.Action.{Action}
 use Rattle.definitions.specs.declared.Action.the-variants.{Take, Select, Emit, Idle}
-use Rattle.definitions.specs.declared.Mode.{Mode}
 use Rattle.definitions.specs.Map.{Map, actionsOf}
 use Rattle.definitions.specs.View.{View, viewOf}
 use Rattle.definitions.specs.Select.{Place, entriesOf, selectOf}

@@ -1,6 +1,6 @@
 -- Document 02, "One drive, one place": what a select puts out is held by nothing before it, neither by what was emitted nor by a place of its
 -- own; so in a loadable map no device stands twice in a group's list. Assumes nothing.
-use mathlib.Core.Path.{_≡_, refl, sym, ap, _∙_, subst}
+use mathlib.Core.Path.{_≡_, refl, sym, _∙_, subst}
 use mathlib.Core.Bool.{Bool, true, false, cond, false≢true}
 use mathlib.Core.List.{List, [], _∷_, _++_, map, map-append, append-nil, append-assoc, List·Memᴰ, Memᴰ·map, Memᴰ·of-map}
 use mathlib.Core.Logic.{_⊎_, inl, inr, ⊎-elim}
@@ -13,14 +13,13 @@ use lib.Dec.{eqb}
 use lib.ListN.{length, getD, replicate, length-append, List·getD-append}
 use lib.Seq.{getD-at}
 use Rattle.definitions.specs.declared.Action.{Action}
-use Rattle.definitions.specs.declared.Action.the-variants.{Take, Select, Emit, Idle}
+use Rattle.definitions.specs.declared.Action.the-variants.{Select, Idle}
 use Rattle.definitions.specs.declared.Drawn.the-variants.{Winner}
 use Rattle.definitions.specs.declared.Mode.{Mode}
 use Rattle.definitions.specs.declared.Mode.the-variants.{FirstN, Independent, Through}
 use Rattle.definitions.specs.declared.Ranked.{Ranked}
 use Rattle.definitions.specs.declared.Standing.{Standing}
-use Rattle.definitions.specs.declared.Standing.the-variants.{Outside, Inside}
-use Rattle.definitions.specs.declared.Verdict.{Verdict}
+use Rattle.definitions.specs.declared.Standing.the-variants.{Inside}
 use Rattle.definitions.specs.declared.Verdict.the-variants.{Held, Rejected, Passed}
 use Rattle.definitions.specs.Lists.{has}
 use Rattle.definitions.specs.Map.{Map, bucketItem, bucketNumber, actionsOf}

@@ -36,7 +36,7 @@ fn leaves_out(mode: Mode, e: u32) -> bool
     }
 }
 
-// What rank r makes under entry a of the working list, the select holding these items so far and f being what it is: under a hole nothing.
+// What rank r makes under entry a of the working list, these numbers being held so far and f being what it is: under a hole nothing.
 fn rank_under<'a, 'b>(
     plan: &'a Plan,
     values: &'a Values,

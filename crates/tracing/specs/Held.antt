@@ -2,8 +2,8 @@
 -- and for a bucket, as before, at those of its own select." Assumes nothing.
 use mathlib.Core.Path.{_≡_, refl, sym, ap, _∙_, subst}
 use mathlib.Core.Bool.{Bool, true, false, cond, false≢true}
-use mathlib.Core.List.{List, _++_, map, List·Memᴰ, Memᴰ·map, Memᴰ·of-map}
-use mathlib.Core.Logic.{_⊎_, inl, inr, ⊎-elim}
+use mathlib.Core.List.{List, _++_, map, List·Memᴰ, Memᴰ·map}
+use mathlib.Core.Logic.{⊎-elim}
 use Prim.Native.Nat.{ℕ, suc, _+_, _/_, _%_, _<_, _≤_}
 use native.Mathlib.Nat.{le-of-lt}
 use native.Mathlib.Omega.{arith}
@@ -12,7 +12,6 @@ use lib.Dec.{eqb}
 use lib.ListN.{length, getD, take, length-map, length-append, List·getD-append}
 use lib.Seq.{getD-append-add}
 use Rattle.definitions.specs.declared.Action.the-variants.{Select}
-use Rattle.definitions.specs.declared.Event.{Event}
 use Rattle.definitions.specs.declared.Event.the-variants.{Tested}
 use Rattle.definitions.specs.declared.Mode.{Mode}
 use Rattle.definitions.specs.declared.Verdict.{Verdict}
@@ -21,15 +20,13 @@ use Rattle.definitions.specs.Map.{Map, isBucket, bucketNumber, actionsOf}
 use Rattle.definitions.specs.View.{typeOf, viewOf}
 use Rattle.definitions.specs.Walk.{hole, rankOf}
 use Rattle.definitions.specs.Select.{Place, entriesOf, itemsOf, nowhere}
-use Rattle.definitions.specs.Rule.{runTo}
-use Rattle.definitions.specs.Load.{hasDevice, hasItem}
 use Rattle.laws.specs.Lists.{getD-mapped}
 use Rattle.laws.specs.Members.{mem-at, at-mem, mem-has, has-mem, has-either, has-neither, each-at}
 use Rattle.laws.specs.Loadable.{Loadable}
 use Rattle.laws.specs.Blocks.{step-inside}
 use Rattle.laws.specs.Forest.{Holds, is, above, holds-kind, one-holder, type-device, kidsOf, forest}
 use Rattle.laws.specs.Found.{DrawnBy, each-entry, device-number, present-ranged, drawn-present, emitted-devices}
-use Rattle.laws.specs.Origins.{Sought, Tests, rank-grounded}
+use Rattle.laws.specs.Origins.{Tests, rank-grounded}
 use Rattle.laws.specs.OnePlace.{Alone, alone-at, below-holds, Keeps, Out, selected-out}
 use Rattle.tracing.specs.Runs.{leaves, noRank, rankUnder, stepAt, workingAt, listAt, placeAt, step-above, held-at, not-held}
 use Rattle.tracing.specs.Listed.{Emitted, listed-from, list-place, emitted-one}

@@ -86,7 +86,7 @@ at-no-prefix a d y = (
   λ q. d (head-eq-of-cons-eq (append-cancel-left (a .before) _ _ (sym (a .old-is) ∙ q ∙ ap (λ z. z ++ y) (a .new-is) ∙ append-assoc (a .before) _ y))),
 )
 
--- two views, the group x, and the items that a select holds so far in each run
+-- two views, the group x, and what is held so far in each run
 module _ (v₁ v₂ : View) (x : ℕ) (h₁ h₂ : List ℕ) where
   -- two events of one kind, at the same bucket and r' or of the same item, with different ends
   pub data Apart : Event → Event → Type 0 where

@@ -102,7 +102,7 @@ module _ (v : View) (x : ℕ) (mode : Mode) (n t : ℕ) (test : ℕ → ℕ → 
 abbrev pub noRank : RankEvents
 noRank = record { ranked = record { item = hole; entry = hole; fr = 0; f = 0; inner = 0 }; events = [] }
 
--- what rank r makes under a place, in a select of this mode, count n and type t that holds these items so far; nothing under a hole
+-- what rank r makes under a place, in a select of this mode, count n and type t, these numbers being held so far; nothing under a hole
 unfoldable pub rankUnder : View → ℕ → Mode → ℕ → ℕ → List ℕ → Place → ℕ → RankEvents
 rankUnder v x mode n t held above r =
     cond (eqb (above .entry) hole) noRank (rankOf v x mode n t held (bucketNumber (above .entry)) r 0)
