@@ -33,7 +33,7 @@ static double now(void) {
     return (double)t.tv_sec * 1e9 + (double)t.tv_nsec;
 }
 
-/* Maps of two forms differ in other lines than those of drives, and an edit alters no others. */
+/* Maps of two forms differ in other lines than those of drives. */
 static int same_maps(void) {
     return len[0] == len[1] ? memcmp(map[0], map[1], len[0]) == 0 : memcmp(map[0] + FIRST, map[1] + FIRST, drives) == 0;
 }

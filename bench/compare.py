@@ -11,8 +11,8 @@ import measure
 
 
 def older(text):
-    """The map as builds before change 4 take it, straw buckets without their kind."""
-    return re.sub(r"(?m)^(02......)01$", r"\1", text)
+    """The map as builds before change 6 take it, buckets without their weight."""
+    return re.sub(r"(?m)^(02.{8}).{8}$", r"\1", text)
 
 
 def main():

@@ -7,12 +7,26 @@ FULL = 65536
 BASE = 65536  # a bucket's item number is this and its own number
 
 
+def weigher(devices, links):
+    """What tells the weight of an item by its number: a bucket weighs what its children do."""
+    weights = {n: weight for n, weight, _ in devices}
+    children = {}
+    for bucket, child in links:
+        children.setdefault(BASE + bucket, []).append(child)
+
+    def weight_of(item):
+        return weights[item] if item < BASE else sum(map(weight_of, children[item]))
+
+    return weight_of
+
+
 def text_of(groups, devices, buckets, links, steps):
     """The frames of a map. devices: (number, weight, acceptance); buckets: (number, type, kind); links: (bucket, child); steps: (step, count,
     type, bucket)."""
+    weight_of = weigher(devices, links)
     lines = [f"00{groups:08x}"]
     lines += [f"01{n:04x}{weight:08x}{acceptance:08x}" for n, weight, acceptance in devices]
-    lines += [f"02{n:04x}{type_:02x}{kind:02x}" for n, type_, kind in buckets]
+    lines += [f"02{n:04x}{type_:02x}{kind:02x}{weight_of(BASE + n):08x}" for n, type_, kind in buckets]
     lines += [f"03{bucket:04x}{child:08x}" for bucket, child in sorted(links)]
     lines += [f"04{step:02x}{count:02x}{type_:02x}{bucket:04x}" for step, count, type_, bucket in steps]
     lines.append(f"05{len(lines):04x}")

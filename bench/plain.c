@@ -1,4 +1,4 @@
-/* Document 01, with changes 1 to 5 of document 02, in plain C, sentence by sentence: what the engine is measured against. */
+/* Document 01, with changes 1 to 6 of document 02, in plain C, sentence by sentence: what the engine is measured against. */
 #include "plain.h"
 
 #include <stdlib.h>
@@ -7,6 +7,7 @@
 enum { DEVICES = 1024, BUCKETS = 256, BASE = 65536, CHILDREN = 64, STEPS = 16, PLACES = 32, HOLE = 0xffff, TRIES = 50, MOVE = 23 };
 enum { TAKE = 1, FIRST_N = 2, INDEPENDENT = 3, EMIT = 4, THROUGH = 5 };
 enum { STRAW = 1, TREE = 2 };
+enum { WRITTEN = 10 }; /* where a bucket's line has its weight */
 
 struct step {
     uint32_t step, count, type, bucket;
@@ -14,6 +15,7 @@ struct step {
 
 struct bucket {
     uint32_t type, kind, weight, count;
+    size_t line; /* where its line begins in the text */
     uint32_t items[CHILDREN], weights[CHILDREN];
     uint32_t root, nodes[2 * CHILDREN]; /* of a tree: the root's label, and the weight of each node by its label */
 };
@@ -50,7 +52,7 @@ static void put_field(uint8_t *at, size_t digits, uint32_t n) {
 }
 
 /* Digits of a frame, by its kind. */
-static const size_t LENGTH[6] = {10, 22, 10, 14, 12, 6};
+static const size_t LENGTH[6] = {10, 22, 18, 14, 12, 6};
 
 static uint32_t kind_of(const uint8_t *line) { return field(line, 2); }
 
@@ -313,6 +315,21 @@ static void weigh_all(struct map *m) {
             weigh(m, BASE + b);
 }
 
+/* Question 23. */
+static int written_true(const struct map *m, const uint8_t *text) {
+    for (uint32_t b = 0; b < BUCKETS; b++)
+        if (m->present[b] && field(text + m->buckets[b].line + WRITTEN, 8) != m->buckets[b].weight)
+            return 0;
+    return 1;
+}
+
+/* "A weight edit brings every bucket above the drive up to date": the others weigh what they weighed. */
+static void write_weights(const struct map *m, uint8_t *text) {
+    for (uint32_t b = 0; b < BUCKETS; b++)
+        if (m->present[b])
+            put_field(text + m->buckets[b].line + WRITTEN, 8, m->buckets[b].weight);
+}
+
 /* The map of a text, or the number of the first question answered no. */
 static uint32_t read_map(struct map *m, const uint8_t *text, size_t len) {
     uint32_t steps = 0;
@@ -350,6 +367,7 @@ static uint32_t read_map(struct map *m, const uint8_t *text, size_t len) {
             m->buckets[n].type = field(f + 6, 2);
             m->buckets[n].kind = field(f + 8, 2);
             m->buckets[n].count = 0;
+            m->buckets[n].line = at;
             break;
         case 4:
             if (steps < STEPS)
@@ -369,9 +387,11 @@ static uint32_t read_map(struct map *m, const uint8_t *text, size_t len) {
     m->width = width_of(m);
     if (m->width == 0)
         return 12;
+    weigh_all(m);
+    if (!written_true(m, text))
+        return 23;
     if (total > 67107840)
         return 13;
-    weigh_all(m);
     return 0;
 }
 
@@ -746,6 +766,7 @@ struct plain_made plain_edit(uint8_t *text, size_t len, uint16_t *table, size_t 
     memcpy(table, fresh, places * sizeof *fresh);
     free(fresh);
     put_field(text + m.line[device] + (weight ? 6 : 14), 8, value);
+    write_weights(&m, text);
     r.moves = moves;
     return r;
 }

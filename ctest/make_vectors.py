@@ -19,7 +19,7 @@ from unittest import mock
 
 ap = argparse.ArgumentParser()
 ap.add_argument('--oracle', required=True)
-ap.add_argument('--level', type=int, default=5)
+ap.add_argument('--level', type=int, default=6)
 ap.add_argument('--days', action='store_true')
 ap.add_argument('--hashes', action='store_true')
 ARGS = ap.parse_args()
@@ -28,6 +28,7 @@ import blocks  # noqa: E402
 import crush  # noqa: E402
 import fill   # noqa: E402
 import gen    # noqa: E402
+import weights  # noqa: E402
 
 gen.Doc.level = ARGS.level
 
@@ -69,6 +70,19 @@ def trees():
             place(doc.bytes(), rng.randrange(8), 4)
 
 
+def written():
+    """Nested maps, also with weights that are not the sums, and with these and an earlier question answered no."""
+    for depth in range(1, 6):
+        rng = random.Random(f'weights:{depth}')
+        doc = weights.nested(gen, rng, depth)
+        place(doc.bytes(), 0, 64)
+        ways = weights.untrue(rng, doc)
+        for way in rng.sample(ways, min(8, len(ways))):
+            place(weights.with_written(doc, way).bytes(), 0, 64)
+        for number in weights.EARLIER:
+            place(weights.beside(crush, gen, rng, number, depth).bytes(), 0, 64)
+
+
 def sharing(count, groups):
     """The bytes of maps with blocks over common drives; none before change 5."""
     return [blocks.altered(crush, gen, random.Random(f'blocks:{i}'), i, 3, groups)[0].bytes()
@@ -78,6 +92,8 @@ def sharing(count, groups):
 def places():
     extremes()
     trees()
+    if ARGS.level >= crush.WRITTEN_WEIGHTS:
+        written()
     for data in sharing(60, 4):
         for group in range(2):
             place(data, group, 64)

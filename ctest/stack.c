@@ -23,8 +23,9 @@ static void write_map(unsigned step, unsigned type) {
     lines = 0;
     line("00%08x\n", 1, 0, 0);
     line("01%04x%08x%08x\n", 0, 1, 65536);
+    /* each as heavy as the drive */
     for (unsigned b = 0; b < LEVELS; b++)
-        line("02%04x%02x%02x\n", b, b + 1, 1 + b % 2);
+        line("02%04x%02x%02x00000001\n", b, b + 1, 1 + b % 2);
     for (unsigned b = 0; b < LEVELS; b++)
         line("03%04x%08x\n", b, b == 0 ? 0 : BASE + b - 1, 0);
     line("04010000%04x\n", LEVELS - 1, 0, 0);

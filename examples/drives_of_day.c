@@ -55,6 +55,8 @@ static const char *meaning(uint32_t number) {
         return "a step 5 has type 0";
     case 22:
         return "a bucket has no child";
+    case 23:
+        return "the weight written for a bucket is not the sum of its children's";
     default:
         return "no number that crush_place answers";
     }

@@ -28,6 +28,19 @@ def acceptance(drive):
     return FULL // 2 if drive in FILLING else FULL
 
 
+def weigher(devices, links):
+    """What tells the weight of an item by its number: a bucket weighs what its children do."""
+    weights = {number: weight for number, weight, _ in devices}
+    children = {}
+    for bucket, child in links:
+        children.setdefault(BASE + bucket, []).append(child)
+
+    def weight_of(item):
+        return weights[item] if item < BASE else sum(map(weight_of, children[item]))
+
+    return weight_of
+
+
 def main():
     devices, buckets, links = [], [(0, ROOT, STRAW)], []
     for s, cabinets in enumerate(SITES):
@@ -42,9 +55,10 @@ def main():
                 drive = 256 * s + 16 * c + slot
                 devices.append((drive, size, acceptance(drive)))
                 links.append((cabinet, drive))
+    weight_of = weigher(devices, links)
     lines = [f"00{GROUPS:08x}"]
     lines += [f"01{number:04x}{weight:08x}{share:08x}" for number, weight, share in sorted(devices)]
-    lines += [f"02{number:04x}{type_:02x}{kind:02x}" for number, type_, kind in sorted(buckets)]
+    lines += [f"02{number:04x}{type_:02x}{kind:02x}{weight_of(BASE + number):08x}" for number, type_, kind in sorted(buckets)]
     lines += [f"03{bucket:04x}{child:08x}" for bucket, child in sorted(links)]
     # take the root; three sites; in each a drive of any cabinet; emit
     lines += ["040100000000", f"040303{SITE:02x}0000", "040301000000", "040400000000"]

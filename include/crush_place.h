@@ -38,7 +38,8 @@ struct crush_placing {
  * The questions are put in this order, each to the whole map before the next. A refusal answers the number of the first one answered no:
  *
  *    1  Has the map 1 to 65,536 bytes, the last a newline, all others lower-case hexadecimal digits or newlines?
- *    2  Is each line of kind 00 to 05, at that kind's length? (An 02 has 10 digits, the last two the bucket's kind.)
+ *    2  Is each line of kind 00 to 05, at that kind's length? (An 02 has 18 digits: behind the type two are the
+ *       bucket's kind, and eight its weight.)
  *    3  Is there one 00 first, then the 01s, 02s, 03s and 04s, and one 05 last?
  *    4  Does the 05 tell the number of lines before it?
  *    5  Is each field in its range, and 0 where unused? (A bucket's kind is 01, straw, or 02, tree.)
@@ -52,6 +53,7 @@ struct crush_placing {
  *       step 5 (select through), behind which its block has no further select?
  *   21  Has no step 5 type 0? (It is put here, right after 11.)
  *   12  Is the list at most 16 places wide in a block and 32 in all?
+ *   23  Is the weight written for each bucket the sum of its children's weights? (It is put here, after 12.)
  *   13  Do the drives weigh at most 67,107,840 in all? (No map that comes so far weighs more.)
  *   15  Is the group below the map's number of groups?
  *   16  Has the space room for W places?

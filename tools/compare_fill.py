@@ -31,7 +31,7 @@ def name_of(line):
 def main():
     parser = argparse.ArgumentParser(description=__doc__)
     parser.add_argument("--oracle", type=pathlib.Path, required=True)
-    parser.add_argument("--level", type=int, default=5)
+    parser.add_argument("--level", type=int, default=6)
     parser.add_argument("--maps", type=int, default=100)
     parser.add_argument("--first", type=int, default=0)
     parser.add_argument("--kinds", nargs="+", choices=KINDS, default=KINDS)
@@ -50,7 +50,7 @@ def main():
             got = output_of([options.program], given)
             inputs += 1
             through += any(line.startswith(b"0405") for line in given.splitlines())
-            trees += any(line.startswith(b"02") and line[8:] == b"02" for line in given.splitlines())
+            trees += any(line.startswith(b"02") and line[8:10] == b"02" for line in given.splitlines())
             if want.startswith(b"11"):
                 mp = crush.load(reference.split_input(given)[0], options.level)
                 if blocks.share_drives(crush, mp):

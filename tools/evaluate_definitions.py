@@ -3,7 +3,7 @@
 
 usage: evaluate_definitions.py --oracle DIR [--level L] [--seed N] [--maps N] [--edits N] [--damaged N] [--walks N]
                 [--leaves N] [--ties N] [--through N] [--trees N]
-                [--blocks N] [--keys N] [--per N]
+                [--blocks N] [--weights N] [--keys N] [--per N]
                 [--crate DIR] [--keep] [--wrong] [--verbose] [--giving-up]
 
 DIR holds the reference: crush.py, fill.py and gen.py.
@@ -32,6 +32,9 @@ them, in a scratch repository outside this one.  Prints how many held.
   --blocks   maps whose rule has two or more blocks over common drives, each
              with a list that change 5 alters: load, placing and walk of a
              group, an edit, the fill
+  --weights  nested maps: load's number, also where weights are written that
+             are not the sums, alone and with an earlier question answered no;
+             edits put in: the map, and its text
   --giving-up  besides, two placings: one live drive in one cabinet, 2 tries;
              one dead drive, 2,550 tries, in fifty equations of a turn each
   --level    the last change of document 02 that counts
@@ -58,8 +61,8 @@ CRATE = os.path.join(HERE, '..', 'crates', 'definitions')
 ap = argparse.ArgumentParser()
 for name, value in (('seed', 1), ('maps', 4), ('edits', 2), ('damaged', 6),
                     ('walks', 1), ('leaves', 5), ('ties', 0), ('through', 4),
-                    ('trees', 10), ('blocks', 4), ('keys', 500), ('per', 60),
-                    ('level', 5)):
+                    ('trees', 10), ('blocks', 4), ('weights', 8), ('keys', 500),
+                    ('per', 60), ('level', 6)):
     ap.add_argument('--' + name, type=int, default=value)
 ap.add_argument('--oracle', required=True)
 ap.add_argument('--crate', default=CRATE)
@@ -75,6 +78,7 @@ import blocks  # noqa: E402
 import crush  # noqa: E402
 import fill   # noqa: E402
 import gen    # noqa: E402
+import weights  # noqa: E402
 
 gen.Doc.level = ARGS.level
 
@@ -102,12 +106,15 @@ use %(of)sdeclared.Verdict.{Verdict}
 use %(of)sdeclared.Verdict.the-variants.{Held, Rejected, Passed}
 use %(of)sdeclared.Event.{Event}
 use %(of)sdeclared.Event.the-variants.{Drew, Tested}
+use %(of)sdeclared.Change.the-variants.{Acceptance, Weight}
 use %(of)sHash.{hash2, hash3, hash4}
 use %(of)sStraw.{L, key}
 use %(of)sTree.{labelOf, heightOf, nodeWeight, treeOf}
 use %(of)sMap.{mapOf}
 use %(of)sSelect.{Place}
 use %(of)sRule.{placedOf}
+use %(of)sEdit.{put}
+use %(of)sWriting.{mapText}
 use %(of)sCalls.{loadOf, placeOf, daemonOf, fillOf, editOf, writeOf, dayOf}
 use %(of)sOpen.{computing}
 %(more)s
@@ -688,12 +695,15 @@ def tree_draws(ths, count):
 
 
 def kind_maps(ths):
-    """M with each kind of bucket, and in the form without one."""
-    for kind, number in ((0, 5), (1, 0), (2, 0), (3, 5), (255, 5), (None, 2)):
+    """M with each kind of bucket, and in the forms without a kind or a
+    weight."""
+    for kind, level, number in ((0, ARGS.level, 5), (1, ARGS.level, 0),
+                                (2, ARGS.level, 0), (3, ARGS.level, 5),
+                                (255, ARGS.level, 5), (1, crush.TREES - 1, 2),
+                                (1, crush.WRITTEN_WEIGHTS - 1, 2)):
         d = gen.flat(2, [(0, 1, 65536)], gen.block(0, (3, 2, 0)))
-        d.kinds[0] = kind or 0
-        if kind is None:
-            d.level = crush.TREES - 1
+        d.kinds[0] = kind
+        d.level = level
         mp = loaded(d.bytes())
         assert number == (mp if isinstance(mp, int) else 0)
         ths.add('load', 'kind %s' % kind, 'loadOf %s' % text(d.bytes()),
@@ -793,6 +803,67 @@ def block_maps(ths, count):
                  events, ' '.join('%s: %d' % c for c in sorted(causes.items())),
                  led))
 
+
+# --------------------------------------------------------------- weights
+
+def small_nested(rng, depth):
+    """A nested map of at most 1,500 bytes."""
+    while True:
+        d = weights.nested(gen, rng, depth)
+        if len(d.bytes()) <= 1500:
+            return d
+
+
+def put_theorems(ths, what, mp, line):
+    """An edit put into a map; the map after it."""
+    kind, device, value = crush.edit_form(line)
+    after = edited(mp, line)
+    change = 'put (mapOf %s) (%s %d %d)' % (
+        text(crush.map_bytes(mp)),
+        'Weight' if kind == '22' else 'Acceptance', device, value)
+    written = text(crush.map_bytes(after))
+    ths.add('put', what, 'mapText (%s)' % change, written, 0, mp)
+    ths.add('put', what, 'mapOf %s' % written, change, 0, mp)
+    return after
+
+
+def weight_maps(ths, count):
+    numbers_seen, deep, others = {}, {}, 0
+    for i in range(count):
+        what = 'seed %d:%d' % (ARGS.seed, i)
+        rng = random.Random('weights:' + what)
+        depth = 2 + i % 4
+        d = small_nested(rng, depth)
+        mp = loaded(d.bytes())
+        maps = [d] + [weights.with_written(d, way)
+                      for way in rng.sample(weights.untrue(rng, d), 4)]
+        maps += [weights.beside(crush, gen, rng, number, 1 + i % 3)
+                 for number in (12, rng.choice(weights.EARLIER))]
+        for other in maps:
+            number = loaded(other.bytes())
+            number = number if isinstance(number, int) else 0
+            numbers_seen[number] = numbers_seen.get(number, 0) + 1
+            ths.add('load', what, 'loadOf %s' % text(other.bytes()),
+                    str(number))
+        for line in weights.edits(rng, d, 5):
+            form = crush.edit_form(line)
+            if form is None or not crush.edit_value_ok(mp, *form):
+                continue
+            mp = put_theorems(ths, what, mp, line)
+            if form[0] == '22':
+                above = weights.buckets_above(mp, form[1])
+                deep[above] = deep.get(above, 0) + 1
+            else:
+                others += 1
+    if count:
+        print('weights: %d maps, numbers: %s; edits of a weight by the number '
+              'of buckets above the drive: %s, of an acceptance: %d'
+              % (count,
+                 ' '.join('%d: %d' % c for c in sorted(numbers_seen.items())),
+                 ' '.join('%d: %d' % c for c in sorted(deep.items())), others))
+
+
+# ------------------------------------------------------------- giving up
 
 def one_cabinet(acceptance):
     """One drive in one cabinet, and a rule that goes through it."""
@@ -988,6 +1059,8 @@ def main():
         tree_maps(ths, (ARGS.trees + 4) // 5)
     if ARGS.level >= crush.ONE_PLACE:
         block_maps(ths, ARGS.blocks)
+    if ARGS.level >= crush.WRITTEN_WEIGHTS:
+        weight_maps(ths, ARGS.weights)
     if ARGS.giving_up:
         giving_up(root)
     sys.exit(run(ths, root))

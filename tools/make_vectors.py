@@ -9,7 +9,8 @@ step 5, of those with a tree and of those with blocks over common drives how man
 by cause, whose cause stands in an inner walk, and those whose cause stands at a draw in a tree or in a straw bucket, or at one that finds none in
 one of the runs: of a 03 that of the place where following it ends; the numbers of children that trees have; of the maps with blocks over common
 drives those whose table change 5 alters, those with an inner walk that goes on below its item or meets held drives only, and the moves by a 03
-whose drive an earlier block holds, in the run before the edit or in the one after it."""
+whose drive an earlier block holds, in the run before the edit or in the one after it; the maps refused with 23, and the edits of a weight
+that were taken, by the number of buckets above the drive."""
 import argparse
 import collections
 import itertools
@@ -18,6 +19,7 @@ import random
 import sys
 
 import blocks
+import weights
 
 CRATE = pathlib.Path(__file__).resolve().parent.parent / "crates" / "vectors"
 SEEDS = {"valid": 260, "damaged": 360, "edges": 648, "ambiguous": 22}
@@ -25,13 +27,18 @@ SEEDS = {"valid": 260, "damaged": 360, "edges": 648, "ambiguous": 22}
 TREES = 80
 # and maps made of blocks over common drives
 BLOCKS = 200
+# and nested maps of each depth, some of them with weights that are not the sums; of a map so many ways to write such weights at most; and maps that
+# answer each of the earlier questions no besides
+NESTED = {1: 6, 2: 30, 3: 30, 4: 24, 5: 20}
+UNTRUE, WAYS = 3, 16
+BESIDE = 5
 TRIED = 64
 # what the program has space for, in bytes
 MAP, EDITS, ANSWER = 65600, 65536, 393216
 # of cases with more bytes one of a kind, or of an edge, is enough
 LARGE = 20000
 
-M = ["0000000002", "0100000000000100010000", "0200000101", "03000000000000", "040100000000", "040302000000", "040400000000", "050007"]
+M = ["0000000002", "0100000000000100010000", "020000010100000001", "03000000000000", "040100000000", "040302000000", "040400000000", "050007"]
 
 
 def text(lines):
@@ -40,11 +47,11 @@ def text(lines):
 
 def samples():
     """Document 01, "Samples"."""
-    two = ["0000000002", "0100000000000100010000", "0200000201", "03000000000000", "040100000000", "040304010000"]
+    two = ["0000000002", "0100000000000100010000", "020000020100000001", "03000000000000", "040100000000", "040304010000"]
     yield text(M + ["21000000000000"])
     yield text(M + ["22000000000000"])
     yield text([M[0], "0100000000000100000000"] + M[2:])
-    yield text([M[0], "0100000000000000010000"] + M[2:])
+    yield text([M[0], "0100000000000000010000", "020000010100000000"] + M[3:])
     yield text(two + ["040304000000", "040400000000", "050008"])
     yield text(two + ["040305000000", "040400000000", "050008"])
     yield b""
@@ -59,13 +66,15 @@ def orders():
         children = {9: [65536 + good], 22: [], 10: list(range(1, 66))}
         kids = [(b, child) for b, fault in enumerate(faults) for child in children[fault]] + [(good, 0)]
         lines = ["0000000002"] + [f"01{d:04x}0000010000010000" for d in range(66)]
-        lines += [f"02{b:04x}0101" for b in range(good + 1)] + [f"03{b:04x}{child:08x}" for b, child in kids]
+        # the weights are not the sums, which is asked later
+        lines += [f"02{b:04x}010100000000" for b in range(good + 1)] + [f"03{b:04x}{child:08x}" for b, child in kids]
         lines += [f"0401{0:04x}{good:04x}", M[5], M[6]]
         yield text(lines + [f"05{len(lines):04x}"])
 
 
-def answer_of(reference, crush, level, frames, edits, seen):
-    """The answer, the groups and the width; of the moves seen, those of a refused edit are left out."""
+def answer_of(reference, crush, level, frames, edits, seen, taken):
+    """The answer, the groups and the width; of the moves seen, those of a refused edit are left out. For each edit of a weight that is
+    taken, the number of buckets above its drive is added to taken."""
     mp = crush.load(frames, level)
     if isinstance(mp, int):
         return reference.refusal(mp), 0, 0
@@ -92,6 +101,8 @@ def answer_of(reference, crush, level, frames, edits, seen):
             continue
         mp, table = edited.map, edited.table
         out.append(edited.bytes())
+        if line.startswith(b"22"):
+            taken.append(weights.buckets_above(mp, int(line[2:6], 16)))
     out.append(crush.map_bytes(mp))
     return b"".join(out), groups, w
 
@@ -120,6 +131,23 @@ def block_input(crush, gen, seed):
     return doc.bytes()
 
 
+def weight_inputs(crush, gen):
+    """Edge and bytes of nested maps: with edits, with weights that are not the sums, and with these and an earlier question answered no."""
+    for depth, count in NESTED.items():
+        for seed in range(count):
+            rng = random.Random(f"weights:{depth}:{seed}")
+            doc = weights.nested(gen, rng, depth)
+            ways = weights.untrue(rng, doc) if seed < UNTRUE else []
+            for way in rng.sample(ways, min(WAYS, len(ways))):
+                yield "weights", weights.with_written(doc, way).bytes()
+            doc.edits = weights.edits(rng, doc, rng.choice((2, 4, 8)))
+            yield "weights", doc.bytes()
+    for number in weights.EARLIER:
+        for seed in range(BESIDE):
+            yield "weights", weights.beside(crush, gen, random.Random(f"beside:{number}:{seed}"), number, 1 + seed % 4).bytes()
+    yield "crowded", weights.crowded(gen).bytes()
+
+
 def inputs(crush, gen, level, large):
     """Kind, edge and bytes of each input; an edge whose inputs are large comes once."""
     for given in samples():
@@ -135,6 +163,8 @@ def inputs(crush, gen, level, large):
         yield "trees", "trees", gen.e_tree(random.Random(f"tree:{seed}"))
     for seed in range(BLOCKS if level >= crush.ONE_PLACE else 0):
         yield "blocks", "blocks", block_input(crush, gen, seed)
+    for edge, given in weight_inputs(crush, gen) if level >= crush.WRITTEN_WEIGHTS else ():
+        yield "weights", edge, given
 
 
 def watch(crush):
@@ -193,7 +223,7 @@ def stands_at(crush, old, new, mp):
 def main():
     parser = argparse.ArgumentParser(description=__doc__)
     parser.add_argument("--oracle", type=pathlib.Path, required=True)
-    parser.add_argument("--level", type=int, default=5)
+    parser.add_argument("--level", type=int, default=6)
     options = parser.parse_args()
     sys.path.insert(0, str(options.oracle))
     import crush
@@ -201,8 +231,8 @@ def main():
     import gen
 
     cases, answers, large, out = collections.Counter(), collections.defaultdict(collections.Counter), set(), []
-    through, inner, trees, draws, children, shared, across = (collections.Counter() for _ in range(7))
-    seen = watch(crush)
+    through, inner, trees, draws, children, shared, across, deep = (collections.Counter() for _ in range(8))
+    seen, taken = watch(crush), []
     gen.Doc.level = options.level
     for kind, edge, given in inputs(crush, gen, options.level, large):
         frames, edits = reference.split_input(given)
@@ -210,7 +240,8 @@ def main():
         if len(frames) > MAP or len(rest) > EDITS or (len(given) > LARGE and edge in large):
             continue
         seen.clear()
-        answer, groups, w = answer_of(reference, crush, options.level, frames, edits, seen)
+        taken.clear()
+        answer, groups, w = answer_of(reference, crush, options.level, frames, edits, seen, taken)
         if len(given) + len(answer) > LARGE:
             if edge in large:
                 continue
@@ -231,6 +262,7 @@ def main():
                 shared.update(of_map + told_by_blocks(crush, mp) * (groups > 0))
         inner.update(cause for cause, _, old, _, _ in seen if old.inner)
         draws.update((cause, stands_at(crush, *met)) for cause, _, *met in seen)
+        deep.update(taken)
         across.update(holding for _, holding, *_ in seen if holding)
     (CRATE / "data" / "cases").write_bytes(b"".join(out))
     (CRATE / "stdout").write_text(f"{len(out)} cases, 0 wrong\n")
@@ -239,6 +271,9 @@ def main():
     print(f"step 5: {dict(through)}, moves by an inner walk {dict(sorted(inner.items()))}")
     print(f"trees: {dict(trees)}, children {dict(sorted(children.items()))}")
     print(f"blocks over common drives: {dict(shared)}, moves by a drive of an earlier block, held in the run {dict(across)}")
+    untrue = sum(counts["1f17"] for counts in answers.values())
+    print(f"weights: {untrue} maps refused with 23, {deep.total()} edits of a weight taken, by the number of buckets above the drive "
+          f"{dict(sorted(deep.items()))}")
     print(f"moves: {dict(sorted(draws.items()))}")
     print(f"{len(out)} cases, {sum(map(len, out))} bytes")
 

@@ -188,7 +188,7 @@ module _ (m : Map) (L : Loadable m) {plan : List ℕ} (K : Planned m plan) where
         apart = λ b c i h l p q.
             let e = forest m L .one (bucketItem b) (bucketItem c) (getD (childrenIn plan) i 0) (kid b i h l) (kid c i p q) in
             omega (arith, e);
-        fits = λ b. rw (w b, ← weight-bucket m L b) (omega (arith, weight-most m L (bucketItem b)));
+        fits = λ b. rw (w b, ← weight-bucket m (L .falling) b) (omega (arith, weight-most m L (bucketItem b)));
       }
     where
       kid : (b i : ℕ) → firstIn plan b ≤ i → i < firstIn plan b + countIn plan b → List·Memᴰ (getD (childrenIn plan) i 0) (kidsOf m (bucketItem b))

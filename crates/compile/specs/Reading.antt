@@ -16,7 +16,7 @@ use Rattle.definitions.specs.Frames.{framesIn}
 use Rattle.definitions.specs.Map.{Map, mapOf}
 use Rattle.definitions.specs.View.{bucketType, kindNumber, acceptanceOf, deviceWeight}
 use Rattle.definitions.specs.Load.{deviceRanged, bucketRanged, loadNumber}
-use Rattle.definitions.specs.Edit.{withAcceptance, withWeight, put}
+use Rattle.definitions.specs.Edit.{withAcceptance, withWeight, withSums, put}
 use Rattle.laws.specs.Lists.{every-at, getD-mapped}
 use Rattle.laws.specs.Loadable.{Loadable, ranged-is, device-ranged, bucket-ranged, put-length}
 use Rattle.text.specs.declared.Shape.{Shape}
@@ -49,7 +49,7 @@ module _ (m : Map) (d : Device) (k : ℕ) (h : k < length (m .devices)) (e : d �
   accepting n v = rw e (getD-mapped (withAcceptance n v) (m .devices) k noDevice noDevice h)
 
   weighing : (n v : ℕ) → getD (put m (Weight n v) .devices) k noDevice ≡ withWeight n v d
-  unfolding put
+  unfolding put withSums
   weighing n v = rw e (getD-mapped (withWeight n v) (m .devices) k noDevice noDevice h)
 
   module _ (c : Change) (n v : ℕ) where

@@ -69,7 +69,7 @@ module _ (m : Map) (L : Loadable m) where
   -- a bucket of type 0 weighs nothing
   weightless : (b : ℕ) → bucketType m b ≤ 0 → bucketWeight m b ≡ 0
   unfolding weightsOf sum
-  weightless b l = weight-bucket m L b ∙ go (childrenOf m b) refl
+  weightless b l = weight-bucket m (L .falling) b ∙ go (childrenOf m b) refl
     where
       go : (cs : List ℕ) → childrenOf m b ≡ cs → sum (map (weightOf m) cs) ≡ 0
       go [] e = refl
@@ -111,7 +111,7 @@ module _ (m : Map) (L : Loadable m) where
         (ap sum
         (map-ext (itemIn devices loads) (weightOf m) (childrenOf m b)
         (λ c q. let d = child-of m L b c q in item-weight loads n k c h (d .ranged) (omega (arith, d .falls))))
-        ∙ sym (weight-bucket m L b))
+        ∙ sym (weight-bucket m (L .falling) b))
 
     -- one bucket more
     known-more : (loads : List ℕ) (n k : ℕ) → k < 256 → Known m loads n k → Known m (weighedAt held types (suc n) loads k) n (suc k)

@@ -42,23 +42,31 @@ pub fn bucket_weights<'a>(plan: &'a Plan, own: &'a [u32; 1024]) -> [u32; 256]
 }
 
 // And those of the children, in their order: each bucket's part has the weights of its children.
-pub fn weigh_children<'a>(plan: &'a Plan, own: &'a [u32; 1024]) -> [u32; 1280]
+pub fn weigh_children<'a>(
+    plan: &'a Plan,
+    own: &'a [u32; 1024],
+    loads: &'a [u32; 256],
+) -> [u32; 1280]
     requires { ⌜ ((m : Map) × Weighs m (now plan) (now own)) ⌝ }
-    ensures { λ r. ⌜ ((m : Map) → Weighs m (now (plan .entry)) (now (own .entry)) → (b : ℕ)
+    ensures { λ r. ⌜ ((m : Map) → Weighs m (now (plan .entry)) (now (own .entry)) → Tabled (now (loads .entry)) 256 (bucketWeight m) → (b : ℕ)
         → partAt (firstsIn (now (plan .entry))) (countsIn (now (plan .entry))) b r ≡ weightsOf m b) ⌝ }
 {
-    let loads = bucket_weights(plan, own);
     let all: &[u32] = plan;
-    weights::weights_of(own, &loads, &all[hierarchy::CHILDREN..hierarchy::SEED])
+    weights::weights_of(own, loads, &all[hierarchy::CHILDREN..hierarchy::SEED])
 }
 
 // With the acceptances of the devices, all that the map is beside its plan.
-pub fn values_of<'a>(plan: &'a Plan, own: &'a [u32; 1024], acceptance: &'a [u32; 1024]) -> Values
-    requires { ⌜ ((m : Map) × Weighs m (now plan) (now own)) ⌝ }
-    ensures { λ r. ⌜ ((m : Map) → Weighs m (now (plan .entry)) (now (own .entry)) → Tabled (now (acceptance .entry)) 1024 (acceptanceOf m)
-        → viewIn (now (plan .entry)) r ≡ viewOf m) ⌝ }
+pub fn values_of<'a>(
+    plan: &'a Plan,
+    own: &'a [u32; 1024],
+    loads: &'a [u32; 256],
+    acceptance: &'a [u32; 1024],
+) -> Values
+    requires { ⌜ ((m : Map) × Weighs m (now plan) (now own) × Tabled (now loads) 256 (bucketWeight m)) ⌝ }
+    ensures { λ r. ⌜ ((m : Map) → Weighs m (now (plan .entry)) (now (own .entry)) → Tabled (now (loads .entry)) 256 (bucketWeight m)
+        → Tabled (now (acceptance .entry)) 1024 (acceptanceOf m) → viewIn (now (plan .entry)) r ≡ viewOf m) ⌝ }
 {
-    let weights = weigh_children(plan, own);
+    let weights = weigh_children(plan, own, loads);
     let words = trees::words_of(plan, weights);
     join::values_of(acceptance, &words)
 }
@@ -78,18 +86,30 @@ pub fn plan_of(t: &[u8], s: Shape) -> Plan
     join::plan_of(&first, &count, &types, &kinds, &items, jenkins::SEED)
 }
 
+// The values of a map, and the weights of its buckets, by number.
+pub struct Weighed {
+    pub values: Values,
+    pub loads: [u32; 256],
+}
+
 // What an edit changes: the weights and the acceptances, beside the plan, which it leaves. The edit need not be written into the text yet;
 // Malformed is no edit.
-pub fn weigh<'a, 'b>(t: &'a [u8], s: Shape, c: Change, plan: &'b Plan) -> Values
+pub fn weigh<'a, 'b>(t: &'a [u8], s: Shape, c: Change, plan: &'b Plan) -> Weighed
     requires { ⌜ Readable (now t) s (put (mapOf (now t)) c) ⌝ }
     requires { ⌜ Planned (mapOf (now t)) (now plan) ⌝ }
-    ensures { λ r. ⌜ viewIn (now (plan .entry)) r ≡ viewOf (put (mapOf (now (t .entry))) c) ⌝ }
+    ensures { λ r. ⌜ viewIn (now (plan .entry)) (r .values) ≡ viewOf (put (mapOf (now (t .entry))) c) ⌝ }
+    ensures { λ r. ⌜ Tabled (r .loads) 256 (bucketWeight (put (mapOf (now (t .entry))) c)) ⌝ }
     ensures { λ r. ⌜ Sound (now (plan .entry)) ⌝ }
 {
     let devices = devices::devices_of(t, s, c);
     let own = devices.weights;
     let acceptance = devices.acceptances;
-    values_of(plan, &own, &acceptance)
+    let loads = bucket_weights(plan, &own);
+    let values = values_of(plan, &own, &loads, &acceptance);
+    Weighed {
+        values: values,
+        loads: loads,
+    }
 }
 
 // The arrays of the map as an edit leaves it.
@@ -102,7 +122,8 @@ pub fn compile(t: &[u8], s: Shape, c: Change) -> Hierarchy
     ensures { λ r. ⌜ (actionsIn (r .rule) ≡ actionsOf (mapOf (now (t .entry)))) × (r .rule .len ≡ length (mapOf (now (t .entry)) .steps)) × (r .rule .len ≤ 16) ⌝ }
 {
     let plan = plan_of(t, s);
-    let values = weigh(t, s, c, &plan);
+    let weighed = weigh(t, s, c, &plan);
+    let values = weighed.values;
     let rule = steps::rule_of(t, s);
     Hierarchy {
         plan: plan,

@@ -2,9 +2,10 @@
 use mathlib.Core.Bool.{Bool, true, false, cond, _&&_, _||_}
 use mathlib.Core.List.{List, [], _∷_, _++_, map}
 use Prim.Native.Nat.{ℕ, zero, suc}
-use lib.Dec.{leb, eqb}
+use lib.Dec.{eqb}
 use lib.ListN.{length, getD, drop}
 use Rattle.definitions.specs.declared.Device.{Device}
+use Rattle.definitions.specs.declared.Bucket.{Bucket}
 use Rattle.definitions.specs.declared.Drawn.{Drawn}
 use Rattle.definitions.specs.declared.Drawn.the-variants.{Winner, Nothing}
 use Rattle.definitions.specs.declared.Verdict.{Verdict}
@@ -17,7 +18,8 @@ use Rattle.definitions.specs.declared.Parting.{Parting}
 use Rattle.definitions.specs.declared.Parting.the-variants.{Same, Draw, Test}
 use Rattle.definitions.specs.declared.Move.{Move}
 use Rattle.definitions.specs.Lists.{every}
-use Rattle.definitions.specs.Map.{Map}
+use Rattle.definitions.specs.Map.{Map, bucketItem}
+use Rattle.definitions.specs.View.{weightOf}
 use Rattle.definitions.specs.Frames.{isDigit, value, hex, fieldsOf, written, bytesOf}
 use Rattle.definitions.specs.Select.{Place, nowhere}
 use Rattle.definitions.specs.Rule.{widthOf, Placed}
@@ -53,10 +55,19 @@ withWeight d w e =
 abbrev pub withDevices : Map → List Device → Map
 withDevices m ds = record { groups = m .groups; devices = ds; buckets = m .buckets; links = m .links; steps = m .steps }
 
+-- "A weight edit brings every bucket above the drive up to date.": each bucket with its sum written. One that is not above the drive weighs
+-- what it did, so its digits stay (`only-above`, crate laws).
+abbrev pub withSum : Map → Bucket → Bucket
+withSum m b = record { number = b .number; ty = b .ty; kind = b .kind; weight = weightOf m (bucketItem (b .number)) }
+
+unfoldable pub withSums : Map → Map
+withSums m =
+    record { groups = m .groups; devices = m .devices; buckets = map (withSum m) (m .buckets); links = m .links; steps = m .steps }
+
 -- "A good edit makes its value the device's acceptance or weight. Bucket weights stay the sums, and nothing else in the map changes."
 unfoldable pub put : Map → Change → Map
 put m (Acceptance d a) = withDevices m (map (withAcceptance d a) (m .devices))
-put m (Weight d w) = withDevices m (map (withWeight d w) (m .devices))
+put m (Weight d w) = withSums (withDevices m (map (withWeight d w) (m .devices)))
 put m Malformed = m
 
 -- ---- where two walks part

@@ -74,8 +74,9 @@ layouts =
     (8 ∷ [])
     -- "`01` device (4) ..; weight (8) ..; acceptance (8)"
     ∷ (4 ∷ 8 ∷ 8 ∷ [])
-    -- "`02` bucket (4) ..; type (2)"; "gains two digits after the type: 01 straw, 02 tree"
-    ∷ (4 ∷ 2 ∷ 2 ∷ [])
+    -- "`02` bucket (4) ..; type (2)"; "gains two digits after the type: 01 straw, 02 tree"; "each bucket's weight .. as eight more digits at
+    -- the end"
+    ∷ (4 ∷ 2 ∷ 2 ∷ 8 ∷ [])
     -- "`03` bucket (4); child item (8)"
     ∷ (4 ∷ 8 ∷ [])
     -- "`04` step (2), count n (2), type (2), bucket (4)"

@@ -1,8 +1,8 @@
--- Document 01, "Questions at the door", load: questions 1 to 13, and of document 02 22 behind 9 and 21 behind 11, one definition each. 1 is
--- put to the bytes, 2 to their lines, 3 and 4 to the frames on these, and the others to the map that the frames hold.
-use mathlib.Core.Bool.{Bool, true, false, cond, not, _&&_, _||_}
+-- Document 01, "Questions at the door", load: questions 1 to 13, and of document 02 22 behind 9, 21 behind 11 and 23 behind 12, one definition
+-- each. 1 is put to the bytes, 2 to their lines, 3 and 4 to the frames on these, and the others to the map that the frames hold.
+use mathlib.Core.Bool.{Bool, true, false, cond, _&&_, _||_}
 use mathlib.Core.List.{List, [], _∷_, _++_, map}
-use Prim.Native.Nat.{ℕ, zero, suc, _+_, _-_, _*_}
+use Prim.Native.Nat.{ℕ, zero, suc, _+_}
 use lib.Dec.{leb, ltb, eqb}
 use lib.ListN.{length, getD}
 use Rattle.definitions.specs.declared.Device.{Device}
@@ -16,8 +16,8 @@ use Rattle.definitions.specs.declared.Action.the-variants.{Take, Select,
 use Rattle.definitions.specs.declared.Standing.{Standing}
 use Rattle.definitions.specs.declared.Standing.the-variants.{Outside, Inside, Broken}
 use Rattle.definitions.specs.Lists.{every, someOf, linkedFrom, linked, sum, distinct, lastOf, firstNo}
-use Rattle.definitions.specs.Map.{Map, mapOf, isBucket, bucketNumber, actionsOf}
-use Rattle.definitions.specs.View.{childrenOf, bucketType, typeOf}
+use Rattle.definitions.specs.Map.{Map, mapOf, bucketItem, isBucket, bucketNumber, actionsOf}
+use Rattle.definitions.specs.View.{childrenOf, bucketType, typeOf, weightOf}
 use Rattle.definitions.specs.Frames.{Frame, isDigit, kindOf, lineLength, linesOf, framesIn, section, firstField}
 use Rattle.definitions.specs.Rule.{widths, widthOf}
 
@@ -180,6 +180,11 @@ typed m = every throughTyped (actionsOf m)
 unfoldable pub slim : Map → Bool
 slim m = every (λ (w : ℕ). leb w 16) (widths m) && leb (widthOf m) 32
 
+-- 23. "A written weight that is not the sum answers 23, asked after question 12.": of any bucket. Question 5 takes all that eight digits can
+-- say, so a weight that no sum can have is a 23 too.
+unfoldable pub summed : Map → Bool
+summed m = every (λ (b : Bucket). eqb (b .weight) (weightOf m (bucketItem (b .number)))) (m .buckets)
+
 -- 13. "Total device weight at most 67,107,840?"
 unfoldable pub light : Map → Bool
 light m = leb (sum (map (λ (d : Device). d .weight) (m .devices))) 67107840
@@ -205,6 +210,7 @@ mapQuestions m =
     ∷ (11, inBlocks m)
     ∷ (21, typed m)
     ∷ (12, slim m)
+    ∷ (23, summed m)
     ∷ (13, light m)
     ∷ []
 

@@ -1,13 +1,12 @@
 -- Document 01, "The map's frames": the map as a record, the numbers of items, and what the steps do.
 use mathlib.Core.Bool.{Bool, cond}
-use mathlib.Core.List.{List, [], _∷_, map}
-use Prim.Native.Nat.{ℕ, zero, suc, _+_, _-_}
+use mathlib.Core.List.{List, map}
+use Prim.Native.Nat.{ℕ, _+_, _-_}
 use lib.Dec.{leb, eqb}
 use Rattle.definitions.specs.declared.Device.{Device}
 use Rattle.definitions.specs.declared.Bucket.{Bucket}
 use Rattle.definitions.specs.declared.Link.{Link}
 use Rattle.definitions.specs.declared.Step.{Step}
-use Rattle.definitions.specs.declared.Mode.{Mode}
 use Rattle.definitions.specs.declared.Mode.the-variants.{FirstN, Independent, Through}
 use Rattle.definitions.specs.declared.Action.{Action}
 use Rattle.definitions.specs.declared.Action.the-variants.{Take, Select, Emit, Idle}
@@ -24,7 +23,7 @@ abbrev pub deviceIn : Frame → Device
 deviceIn f = record { number = field 0 f; weight = field 1 f; acceptance = field 2 f }
 
 abbrev pub bucketIn : Frame → Bucket
-bucketIn f = record { number = field 0 f; ty = field 1 f; kind = field 2 f }
+bucketIn f = record { number = field 0 f; ty = field 1 f; kind = field 2 f; weight = field 3 f }
 
 abbrev pub linkIn : Frame → Link
 linkIn f = record { bucket = field 0 f; child = field 1 f }

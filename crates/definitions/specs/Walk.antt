@@ -2,7 +2,7 @@
 -- test, a turn and a rank come with their events, in the order made.
 use mathlib.Core.Bool.{Bool, true, false, cond, _||_}
 use mathlib.Core.List.{List, [], _∷_, _++_}
-use Prim.Native.Nat.{ℕ, zero, suc, _+_, _-_, _*_, _%_}
+use Prim.Native.Nat.{ℕ, zero, suc, _+_, _*_, _%_}
 use lib.Dec.{ltb, eqb}
 use Rattle.definitions.specs.declared.Drawn.{Drawn}
 use Rattle.definitions.specs.declared.Drawn.the-variants.{Winner, Nothing}

@@ -21,7 +21,7 @@ abbrev pub deviceFrame : Device → Frame
 deviceFrame d = frame 1 (d .number ∷ d .weight ∷ d .acceptance ∷ [])
 
 abbrev pub bucketFrame : Bucket → Frame
-bucketFrame b = frame 2 (b .number ∷ b .ty ∷ b .kind ∷ [])
+bucketFrame b = frame 2 (b .number ∷ b .ty ∷ b .kind ∷ b .weight ∷ [])
 
 abbrev pub linkFrame : Link → Frame
 linkFrame l = frame 3 (l .bucket ∷ l .child ∷ [])

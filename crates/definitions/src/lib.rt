@@ -9,11 +9,12 @@ pub struct Device {
     pub acceptance: u32,
 }
 
-// Frame 02: a bucket's number, its type and its kind (1 straw, 2 tree).
+// Frame 02: a bucket's number, its type, its kind (1 straw, 2 tree) and the weight written there.
 pub struct Bucket {
     pub number: u32,
     pub ty: u32,
     pub kind: u32,
+    pub weight: u32,
 }
 
 // The kinds of bucket.

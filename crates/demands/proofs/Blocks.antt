@@ -18,18 +18,18 @@ use Rattle.demands.proofs.Instance.{lentSpace, Lending, loadCall, fillC
 use Rattle.demands.proofs.ThreeCauses.{lentTable, move, first, after}
 
 -- one group; drives 0, 1 and 2 in cabinet 1, drives 3 and 4 in cabinet 2; a drive of cabinet 1, and through 2 cabinets. The edits change the line
--- of drive 0
-abbrev pub mapWith : List ℕ → List ℕ
-mapWith drive-0 =
+-- of drive 0 and the weights of what is above it
+abbrev pub mapWith : List ℕ → ℕ → ℕ → List ℕ
+mapWith drive-0 root cabinet-1 =
     line 10 0x0000000001
     ++ drive-0
     ++ line 22 0x0100010000000200010000
     ++ line 22 0x0100020000000100010000
     ++ line 22 0x0100030000000500010000
     ++ line 22 0x0100040000000700010000
-    ++ line 10 0x0200000201
-    ++ line 10 0x0200010101
-    ++ line 10 0x0200020101
+    ++ (hex 10 0x0200000201 ++ line 8 root)
+    ++ (hex 10 0x0200010101 ++ line 8 cabinet-1)
+    ++ line 18 0x02000201010000000c
     ++ line 14 0x03000000010001
     ++ line 14 0x03000000010002
     ++ line 14 0x03000100000000
@@ -47,13 +47,13 @@ mapWith drive-0 =
 
 -- drive 0 at weight 1, at weight 5, and then at acceptance 0
 abbrev pub P : List ℕ
-P = mapWith (line 22 0x0100000000000100010000)
+P = mapWith (line 22 0x0100000000000100010000) 16 4
 
 abbrev pub Q : List ℕ
-Q = mapWith (line 22 0x0100000000000500010000)
+Q = mapWith (line 22 0x0100000000000500010000) 20 8
 
 abbrev pub R : List ℕ
-R = mapWith (line 22 0x0100000000000500000000)
+R = mapWith (line 22 0x0100000000000500000000) 20 8
 
 abbrev pub P-table : List ℕ
 P-table = 0x0002 ∷ 0x0003 ∷ 0x0000 ∷ []

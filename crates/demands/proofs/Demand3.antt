@@ -7,16 +7,18 @@ use Prim.Native.Nat.{ℕ, _*_, _≤_}
 use native.Mathlib.Omega.{arith}
 use lib.ListN.{length, drop, length-append, length-drop}
 use Rattle.definitions.specs.Lists.{over}
-use Rattle.definitions.specs.Map.{mapOf}
+use Rattle.definitions.specs.Map.{Map, mapOf}
 use Rattle.definitions.specs.Rule.{widthOf}
 use Rattle.definitions.specs.Table.{tableOf}
+use Rattle.definitions.specs.Writing.{mapText}
 use Rattle.definitions.specs.Load.{loadNumber}
 use Rattle.definitions.specs.Calls.{independent, fillOf, EditAnswer, editOf}
 use Rattle.history.specs.Step.{Standing, Refused}
-use Rattle.history.specs.Calls.{Run, none, then, Kept, kept}
+use Rattle.history.specs.Calls.{Run, none, then, putAll, Kept, kept}
 use Rattle.engine.specs.Calls.{Filling, filling}
 use Rattle.engine.specs.Edits.{edit-17}
-use Rattle.demands.proofs.Contracts.{LoadCall, loadFrames, load-answers, FillCall, fillFrames, fillTable, fillAnswered, EditCall, editFrames, editTable, editFrame, editSpace, editAnswered, callOf}
+use Rattle.demands.proofs.Contracts.{LoadCall, loadFrames, load-answers, FillCall, fillFrames, fillTable, fillAnswered, EditCall, editFrames, editTable, editFrame, editSpace, editAnswered, callOf, WriteCall, writeFrames, writeSpace, writeAnswered}
+use Rattle.demands.proofs.RoundTrip.{writtenBytes, roomy, write-load}
 
 -- "Its list starts from the map and the table as load and fill leave them.": load was lent these frames and took them; fill was lent them
 -- and the table rest, was not refused, and left table
@@ -77,6 +79,36 @@ pub demand-3 : (l : LoadCall) (f : FillCall) (cs : List EditCall) (frames rest t
     → EditRun frames table cs frames′ table′
     → Kept rest frames table (map callOf cs) frames′ table′
 demand-3 l f cs frames rest table frames′ table′ s i r = kept rest (start-stands l f frames rest table s i) (runs r)
+
+-- ---- "Loading and writing still return one another, after edits too."
+
+-- what write and then load give of the map m that edits have left
+pub record Returned (m : Map) (w : WriteCall) (l : LoadCall) : Type 0 where
+  pub writes : writeAnswered w .number ≡ 0
+  pub bytes : writtenBytes w ≡ mapText m
+  pub loads : l .result ≡ 0
+  pub holds : mapOf (loadFrames l) ≡ m
+
+-- EDIT, WRITE, LOAD: after any list of calls of edit write was lent the map that they left, and space for it, and load what write wrote. Write
+-- gives the bytes of the loaded map with the good edits' values put in and the sums following, and load takes these and reads that map
+pub edit-write-load : (l : LoadCall) (f : FillCall) (cs : List EditCall) (w : WriteCall) (l′ : LoadCall) (frames rest table frames′ table′ : List ℕ)
+    → Start l f frames rest table
+    → independent (mapOf frames) ≡ true
+    → EditRun frames table cs frames′ table′
+    → writeFrames w ≡ frames′
+    → length frames′ ≤ length (writeSpace w)
+    → loadFrames l′ ≡ writtenBytes w
+    → Returned (putAll (mapOf frames) (map callOf cs)) w l′
+edit-write-load l f cs w l′ frames rest table frames′ table′ s i r e h q =
+    let k = demand-3 l f cs frames rest table frames′ table′ s i r in
+    let (z, b) = roomy w (ap loadNumber e ∙ k .loads) (omega (arith, ap length e, h)) in
+    let (n, m) = write-load w l′ z q in
+    record {
+      writes = z;
+      bytes = b ∙ e ∙ k .written ∙ ap mapText (k .map-is);
+      loads = n;
+      holds = m ∙ ap mapOf e ∙ k .map-is;
+    }
 
 -- ---- "Independent selects only (edit)?"
 

@@ -28,7 +28,7 @@ module _ (w : WriteCall) where
   write-answers = w .holds
 
   -- frames that load takes, and space for them: it answers 0, and they are what it wrote
-  roomy : loadNumber f ≡ 0 → length f ≤ length s → (writeAnswered w .number ≡ 0) × (writtenBytes w ≡ f)
+  pub roomy : loadNumber f ≡ 0 → length f ≤ length s → (writeAnswered w .number ≡ 0) × (writtenBytes w ≡ f)
   roomy e h =
       let q = write-answers ∙ write-0 f s e h in (
         ap (λ (a : WriteAnswer). a .number) q,

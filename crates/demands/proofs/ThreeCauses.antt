@@ -16,14 +16,14 @@ use Rattle.demands.proofs.Contracts.{EditCall, callOf}
 use Rattle.demands.proofs.Demand3.{Start, EditRun, empty, demand-3}
 use Rattle.demands.proofs.Instance.{lentSpace, Lending, loadCall, fillCall, editCall, starts, answers}
 
--- one group, three drives in one bucket, two places; the edits change the line of drive 1
-abbrev pub mapWith : List ℕ → List ℕ
-mapWith drive-1 =
+-- one group, three drives in one bucket, two places; the edits change the line of drive 1 and the weight of the bucket
+abbrev pub mapWith : List ℕ → ℕ → List ℕ
+mapWith drive-1 weight =
     line 10 0x0000000001
     ++ line 22 0x0100000000000300010000
     ++ drive-1
     ++ line 22 0x0100020000000200010000
-    ++ line 10 0x0200000101
+    ++ (hex 10 0x0200000101 ++ line 8 weight)
     ++ line 14 0x03000000000000
     ++ line 14 0x03000000000001
     ++ line 14 0x03000000000002
@@ -34,13 +34,13 @@ mapWith drive-1 =
 
 -- drive 1 at weight 2, at weight 6, and then at acceptance 0
 abbrev pub A : List ℕ
-A = mapWith (line 22 0x0100010000000200010000)
+A = mapWith (line 22 0x0100010000000200010000) 7
 
 abbrev pub B : List ℕ
-B = mapWith (line 22 0x0100010000000600010000)
+B = mapWith (line 22 0x0100010000000600010000) 11
 
 abbrev pub C : List ℕ
-C = mapWith (line 22 0x0100010000000600000000)
+C = mapWith (line 22 0x0100010000000600000000) 11
 
 -- a table of one place more than the two, as it is lent; and the tables of the three maps
 abbrev pub lentTable : List ℕ

@@ -18,16 +18,17 @@ use Rattle.demands.proofs.Instance.{lentSpace, Lending, loadCall, fillC
 use Rattle.demands.proofs.ThreeCauses.{lentTable, move, first, after}
 
 -- one group; drives 0 and 1 in cabinet 1, drives 2 and 3 in cabinet 2; through 2 cabinets. The edits change the line of drive 2
-abbrev pub mapWith : List ℕ → List ℕ
-mapWith drive-2 =
+-- and the weights of what is above it
+abbrev pub mapWith : List ℕ → ℕ → ℕ → List ℕ
+mapWith drive-2 root cabinet-2 =
     line 10 0x0000000001
     ++ line 22 0x0100000000000600010000
     ++ line 22 0x0100010000000100010000
     ++ drive-2
     ++ line 22 0x0100030000000400010000
-    ++ line 10 0x0200000201
-    ++ line 10 0x0200010101
-    ++ line 10 0x0200020101
+    ++ (hex 10 0x0200000201 ++ line 8 root)
+    ++ line 18 0x020001010100000007
+    ++ (hex 10 0x0200020101 ++ line 8 cabinet-2)
     ++ line 14 0x03000000010001
     ++ line 14 0x03000000010002
     ++ line 14 0x03000100000000
@@ -41,13 +42,13 @@ mapWith drive-2 =
 
 -- drive 2 at weight 4, at weight 8, and then at acceptance 0
 abbrev pub D : List ℕ
-D = mapWith (line 22 0x0100020000000400010000)
+D = mapWith (line 22 0x0100020000000400010000) 15 8
 
 abbrev pub E : List ℕ
-E = mapWith (line 22 0x0100020000000800010000)
+E = mapWith (line 22 0x0100020000000800010000) 19 12
 
 abbrev pub F : List ℕ
-F = mapWith (line 22 0x0100020000000800000000)
+F = mapWith (line 22 0x0100020000000800000000) 19 12
 
 abbrev pub D-table : List ℕ
 D-table = 0x0000 ∷ 0x0003 ∷ 7 ∷ []

@@ -18,17 +18,18 @@ use Rattle.demands.proofs.Demand3.{Start, EditRun, empty, demand-3}
 use Rattle.demands.proofs.Instance.{lentSpace, Lending, loadCall, fillCall, editCall, starts, answers}
 use Rattle.demands.proofs.ThreeCauses.{lentTable, move, first, after}
 
--- one group; drives 0 to 3 in tree 0, drive 4 in tree 1; one drive from each. The edits change the lines of drives 0 and 4
-abbrev pub mapWith : List ℕ → List ℕ → List ℕ
-mapWith drive-0 drive-4 =
+-- one group; drives 0 to 3 in tree 0, drive 4 in tree 1; one drive from each. The edits change the lines of drives 0 and 4 and
+-- the weights of their trees
+abbrev pub mapWith : List ℕ → List ℕ → ℕ → ℕ → List ℕ
+mapWith drive-0 drive-4 tree-0 tree-1 =
     line 10 0x0000000001
     ++ drive-0
     ++ line 22 0x0100010000000300010000
     ++ line 22 0x0100020000000200010000
     ++ line 22 0x0100030000000300010000
     ++ drive-4
-    ++ line 10 0x0200000102
-    ++ line 10 0x0200010102
+    ++ (hex 10 0x0200000102 ++ line 8 tree-0)
+    ++ (hex 10 0x0200010102 ++ line 8 tree-1)
     ++ line 14 0x03000000000000
     ++ line 14 0x03000000000001
     ++ line 14 0x03000000000002
@@ -44,13 +45,13 @@ mapWith drive-0 drive-4 =
 
 -- drive 0 at weight 4, then at weight 7; drive 4 at weight 0, then at weight 1
 abbrev pub T : List ℕ
-T = mapWith (line 22 0x0100000000000400010000) (line 22 0x0100040000000000010000)
+T = mapWith (line 22 0x0100000000000400010000) (line 22 0x0100040000000000010000) 12 0
 
 abbrev pub U : List ℕ
-U = mapWith (line 22 0x0100000000000700010000) (line 22 0x0100040000000000010000)
+U = mapWith (line 22 0x0100000000000700010000) (line 22 0x0100040000000000010000) 15 0
 
 abbrev pub W : List ℕ
-W = mapWith (line 22 0x0100000000000700010000) (line 22 0x0100040000000100010000)
+W = mapWith (line 22 0x0100000000000700010000) (line 22 0x0100040000000100010000) 15 1
 
 abbrev pub T-table : List ℕ
 T-table = 0x0002 ∷ 0xffff ∷ 7 ∷ []

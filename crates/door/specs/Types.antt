@@ -1,51 +1,41 @@
 -- The types of buckets, read from the table of levels. Assumes nothing.
 use mathlib.Core.Path.{_≡_, refl, sym, ap, _∙_}
-use mathlib.Core.Bool.{Bool, true, false, cond, _||_}
-use mathlib.Core.List.{List, [], _∷_}
+use mathlib.Core.Bool.{Bool, true, false, cond}
+use mathlib.Core.List.{List}
 use mathlib.Core.Logic.{inr, ⊎-elim}
 use Prim.Native.Nat.{ℕ, zero, suc, _+_, _-_, _<_, _≤_}
 use native.Mathlib.Omega.{arith}
 use native.Mathlib.Nat.{eq-or-lt-of-le}
 use native.Mathlib.Numerals.{add-one}
-use lib.Dec.{eqb, leb}
+use lib.Dec.{eqb}
 use lib.ListN.{length, getD, set, replicate, length-set}
 use lib.Seq.{getD-set-same, getD-set-other}
 use borrow.Author.Tests.{le-leb}
 use Rattle.definitions.specs.declared.Bucket.{Bucket}
-use Rattle.definitions.specs.Lists.{someOf, lookup}
-use Rattle.definitions.specs.Map.{Map, bucketItem, bucketNumber, isBucket}
+use Rattle.definitions.specs.Lists.{someOf}
+use Rattle.definitions.specs.Map.{Map, bucketItem, bucketNumber}
 use Rattle.definitions.specs.View.{bucketType, typeBy, typeOf}
 use Rattle.definitions.specs.Load.{hasBucket, hasItem}
-use Rattle.members.specs.Levels.{levelOf, levelAt, Levels}
+use Rattle.laws.specs.Counting.{lookup-none}
+use Rattle.members.specs.Levels.{levelOf, lookedUp, Levels}
 
 -- the types of the buckets below k: a level less 1, which is 0 where the level is 0
 unfoldable pub typesTo : List ℕ → ℕ → List ℕ
 typesTo table zero = replicate 256 0
-typesTo table (suc k) = set (typesTo table k) k (levelAt table (bucketItem k) - 1)
+typesTo table (suc k) = set (typesTo table k) k (lookedUp table (bucketItem k) - 1)
 
 pub types-length : (table : List ℕ) (k : ℕ) → length (typesTo table k) ≡ 256
 unfolding typesTo
 types-length table zero = refl
 types-length table (suc k) = length-set (typesTo table k) k _ ∙ types-length table k
 
-types-at : (table : List ℕ) (k b : ℕ) → k ≤ 256 → b < k → getD (typesTo table k) b 0 ≡ levelAt table (bucketItem b) - 1
+types-at : (table : List ℕ) (k b : ℕ) → k ≤ 256 → b < k → getD (typesTo table k) b 0 ≡ lookedUp table (bucketItem b) - 1
 unfolding typesTo
 types-at table zero b h l = absurd (omega arith)
 types-at table (suc k) b h l =
     ⊎-elim
     (λ (e : b ≡ k). rw e (getD-set-same (typesTo table k) k _ 0 (omega (arith, types-length table k))))
     (λ (g : b < k). getD-set-other (typesTo table k) k b _ 0 (λ e. omega (arith, e)) ∙ types-at table k b (omega arith) g) (eq-or-lt-of-le (omega arith))
-
--- a number that no entry has is looked up as 0
-lookup-none : {A : Type 0} (number f : A → ℕ) (k : ℕ) (xs : List A) → someOf (λ (x : A). eqb (number x) k) xs ≡ false → lookup number f k xs ≡ 0
-unfolding someOf lookup
-lookup-none number f k [] e = refl
-lookup-none number f k (x ∷ xs) e = go (eqb (number x) k) e (lookup-none number f k xs)
-  where
-    go : (b : Bool) → (b || someOf (λ (y : _). eqb (number y) k) xs) ≡ false
-        → (someOf (λ (y : _). eqb (number y) k) xs ≡ false → lookup number f k xs ≡ 0) → cond b (f x) (lookup number f k xs) ≡ 0
-    go true q ih = absurd (let z : _≡_ {A = ℕ} 0 1 = cc in omega arith)
-    go false q ih = ih q
 
 -- a level less 1 is the bucket's type
 level-type : (m : Map) (b : ℕ) → levelOf m (bucketItem b) - 1 ≡ bucketType m b
@@ -64,6 +54,6 @@ types-are m table L b h =
     ∙ ap (λ (n : ℕ). n - 1) (L .level (bucketItem b) (inr (omega arith, omega arith))) ∙ level-type m b
 
 -- one bucket more, whose level is 0 or above it
-pub types-more : (table : List ℕ) (k v : ℕ) → v ≡ levelAt table (bucketItem k) → set (typesTo table k) k (v - 1) ≡ typesTo table (k + 1)
+pub types-more : (table : List ℕ) (k v : ℕ) → v ≡ lookedUp table (bucketItem k) → set (typesTo table k) k (v - 1) ≡ typesTo table (k + 1)
 unfolding typesTo
 types-more table k v e = rw (add-one k, e)

@@ -1,5 +1,5 @@
-// Document 01, "Questions at the door": load; and of document 02 question 22, "asked directly after question 9", and 21, "asked right after
-// question 11".
+// Document 01, "Questions at the door": load; and of document 02 question 22, "asked directly after question 9", 21, "asked right after
+// question 11", and 23, "asked after question 12".
 ghost use mathlib.Core.Path.{_≡_};
 ghost use mathlib.Core.Bool.{true};
 ghost use Prim.Native.Nat.{_-_};
@@ -7,10 +7,12 @@ ghost use lib.ListN.{length};
 ghost use Rattle.definitions.specs.Lists.{firstNo};
 ghost use Rattle.definitions.specs.Frames.{framesIn};
 ghost use Rattle.definitions.specs.Map.{mapOf};
-ghost use Rattle.definitions.specs.Load.{ranged, mapQuestions, loadNumber};
+ghost use Rattle.definitions.specs.Load.{ranged, rising, present, falling, mapQuestions, loadNumber};
 ghost use Rattle.text.specs.Shape.{shapeOf};
 ghost use Rattle.text.specs.RoundTrip.{Framed};
 ghost use Rattle.members.specs.Levels.{Levels};
+ghost use Rattle.members.specs.Weights.{Weights};
+ghost use Rattle.members.specs.Sums.{Sums};
 ghost use Rattle.door.specs.Questions.{behind};
 ghost use Rattle.door.specs.Types.{typesTo};
 use blocks::standing;
@@ -18,13 +20,14 @@ use blocks::typed;
 use blocks::widths;
 use frames::lines;
 use frames::shape;
-use members::counts;
 use members::falling;
 use members::levels;
 use members::once;
 use members::present;
 use members::sizes;
 use members::sizes::Asked;
+use members::sums;
+use members::totals;
 use ranges::light;
 use ranges::ranged;
 use ranges::rising;
@@ -55,10 +58,11 @@ fn types_of(table: &[u32]) -> [u32; 256]
     types
 }
 
-// The number of the first question behind 10 that is answered no, or 0: 11, 21 and 12, which are on the rule, and 13.
-fn behind_10(t: &[u8], s: Shape, table: &[u32]) -> u32
+// The number of the first question behind 10 that is answered no, or 0: 11, 21 and 12, which are on the rule, and 23 and 13, on weights.
+fn behind_10(t: &[u8], s: Shape, table: &[u32], sums: &[u64]) -> u32
     requires { ⌜ Framed (now t) × (s ≡ shapeOf (framesIn (now t))) × (ranged (mapOf (now t)) ≡ true) ⌝ }
-    requires { ⌜ Levels (mapOf (now t)) (now table) ⌝ }
+    requires { ⌜ (rising (mapOf (now t)) ≡ true) × (present (mapOf (now t)) ≡ true) × (falling (mapOf (now t)) ≡ true) ⌝ }
+    requires { ⌜ Levels (mapOf (now t)) (now table) × Sums (mapOf (now t)) (now sums) ⌝ }
     ensures { λ r. ⌜ r ≡ firstNo (behind 10 (mapQuestions (mapOf (now (t .entry))))) ⌝ }
 {
     let types = types_of(table);
@@ -71,6 +75,9 @@ fn behind_10(t: &[u8], s: Shape, table: &[u32]) -> u32
     if !widths::slim(t, s) {
         return 12;
     }
+    if !sums::summed(t, s, sums) {
+        return 23;
+    }
     if !light::light(t, s) {
         return 13;
     }
@@ -78,9 +85,9 @@ fn behind_10(t: &[u8], s: Shape, table: &[u32]) -> u32
 }
 
 // The same behind 6: first those on what is present and what is a child of what.
-fn behind_6(t: &[u8], s: Shape, table: &[u32]) -> u32
-    requires { ⌜ Framed (now t) × (s ≡ shapeOf (framesIn (now t))) × (ranged (mapOf (now t)) ≡ true) ⌝ }
-    requires { ⌜ Levels (mapOf (now t)) (now table) ⌝ }
+fn behind_6<'a, 'b>(t: &'a [u8], s: Shape, table: &'b [u32], weights: &'b [u32]) -> u32
+    requires { ⌜ Framed (now t) × (s ≡ shapeOf (framesIn (now t))) × (ranged (mapOf (now t)) ≡ true) × (rising (mapOf (now t)) ≡ true) ⌝ }
+    requires { ⌜ Levels (mapOf (now t)) (now table) × Weights (mapOf (now t)) (now weights) ⌝ }
     ensures { λ r. ⌜ r ≡ firstNo (behind 6 (mapQuestions (mapOf (now (t .entry))))) ⌝ }
 {
     if !present::present(t, s, table) {
@@ -92,14 +99,14 @@ fn behind_6(t: &[u8], s: Shape, table: &[u32]) -> u32
     if !falling::falling(t, s, table) {
         return 9;
     }
-    let counts = counts::counts(t, s);
-    if !sizes::every_bucket(t, s, &counts, Asked::Filled) {
+    let totals = totals::totals_of(t, s, weights);
+    if !sizes::every_bucket(t, s, &totals.counts, Asked::Filled) {
         return 22;
     }
-    if !sizes::every_bucket(t, s, &counts, Asked::Narrow) {
+    if !sizes::every_bucket(t, s, &totals.counts, Asked::Narrow) {
         return 10;
     }
-    behind_10(t, s, table)
+    behind_10(t, s, table, &totals.sums)
 }
 
 // The number of the first question answered no, or 0.
@@ -125,6 +132,6 @@ pub fn load(t: &[u8]) -> u32
     if !rising::rising(t, s) {
         return 6;
     }
-    let table = levels::levels(t, s);
-    behind_6(t, s, &table)
+    let items = levels::items_of(t, s);
+    behind_6(t, s, &items.levels, &items.weights)
 }

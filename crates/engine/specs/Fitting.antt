@@ -3,23 +3,29 @@ use mathlib.Core.Path.{_≡_, refl, sym, ap, subst, _∙_}
 use mathlib.Core.Bool.{Bool, true, false, _&&_}
 use mathlib.Core.List.{List}
 use Prim.Native.Nat.{ℕ, _<_, _≤_}
-use lib.ListN.{length, getD}
+use native.Mathlib.Omega.{arith}
+use lib.ListN.{length, getD, length-set}
 use borrow.Author.Tests.{le-leb, lt-leb}
 use Rattle.definitions.specs.declared.Device.{Device}
 use Rattle.definitions.specs.declared.Change.{Change}
 use Rattle.definitions.specs.declared.Change.the-variants.{Acceptance, Weight, Malformed}
-use Rattle.definitions.specs.Map.{Map}
-use Rattle.definitions.specs.Load.{rising, hasDevice}
+use Rattle.definitions.specs.Map.{Map, mapOf}
+use Rattle.definitions.specs.Load.{bucketRanged, ranged, rising, hasDevice}
 use Rattle.definitions.specs.Edit.{put}
 use Rattle.definitions.specs.Writing.{mapText}
 use Rattle.definitions.specs.Calls.{fits}
+use Rattle.laws.specs.Lists.{every-at}
 use Rattle.laws.specs.Counting.{at-number}
-use Rattle.text.specs.Records.{noDevice}
+use Rattle.laws.specs.Loadable.{ranged-is, bucket-ranged}
+use Rattle.text.specs.Records.{noDevice, noBucket, countsOf}
 use Rattle.text.specs.Edit as texts
-use Rattle.text.specs.Edit.{withDevice, accepting, weighing, Edited}
+use Rattle.text.specs.Edit.{withDevice, accepting, weighing, bearingAll, Edited}
 use Rattle.frames.specs.declared.edit_frame.Found.{Found}
 use Rattle.frames.specs.declared.edit_frame.Found.the-variants.{At, Missing}
 use Rattle.frames.specs.Found.{FoundIs}
+use Rattle.frames.specs.Sums.{Numbered}
+use Rattle.compile.specs.Tables.{Tabled}
+use Rattle.compile.specs.Weighing.{bucketWeight}
 
 -- the device at k is the edit's
 unfoldable pub PlaceOf : Map → Change → ℕ → Type 0
@@ -73,9 +79,24 @@ module _ (m : Map) (c : Change) (d v : ℕ) where
     accepts-put u e r E =
         E .text ∙ ap mapText (texts.put-acceptance m k d v r (accepts-at e .0) (accepts-at e .1)) ∙ ap (λ (x : Change). mapText (put m x)) (sym e)
 
-    pub weighs-put : (u : List ℕ) → c ≡ Weight d v → rising m ≡ true → Edited u (withDevice k (weighing (getD (m .devices) k noDevice) v) m) → u ≡ mapText (put m c)
-    weighs-put u e r E =
-        E .text ∙ ap mapText (texts.put-weight m k d v r (weighs-at e .0) (weighs-at e .1)) ∙ ap (λ (x : Change). mapText (put m x)) (sym e)
+    -- behind a weight the weights of the buckets too
+    pub weighs-put : (u t ws : List ℕ) → c ≡ Weight d v → rising m ≡ true → Edited t (withDevice k (weighing (getD (m .devices) k noDevice) v) m)
+        → Tabled ws 256 (bucketWeight (put m c)) → Edited u (bearingAll ws (mapOf t)) → u ≡ mapText (put m c)
+    weighs-put u t ws e r D W E =
+        let w = subst (λ (x : Change). Tabled ws 256 (bucketWeight (put m x))) e W in
+        E .text ∙ ap (λ (x : Map). mapText (bearingAll ws x)) (D .holds)
+        ∙ ap mapText (texts.put-weight m k d v r (weighs-at e .0) (weighs-at e .1) ws (λ b q. w .at (b .number))) ∙ ap (λ (x : Change). mapText (put m x)) (sym e)
+
+-- what writing those weights asks of the text with the device's
+module _ (m : Map) (k : ℕ) (d : Device) (g : ranged m ≡ true) where
+  pub weighs-counts : countsOf (withDevice k d m) ≡ countsOf m
+  unfolding countsOf withDevice
+  weighs-counts = rw (length-set (m .devices) k d)
+
+  pub weighs-numbered : (n : ℕ) (x : Map) → n ≡ 256 → x ≡ withDevice k d m → Numbered n x
+  unfolding withDevice
+  weighs-numbered n x p q =
+      rw (p, q) (record { below = λ j l. omega (arith, bucket-ranged _ (every-at bucketRanged (m .buckets) j noBucket (ranged-is m g .buckets) l) .number) })
 
 pub malformed-none : (m : Map) (c : Change) → c ≡ Malformed → Fitted m c Missing
 unfolding Fitted fits

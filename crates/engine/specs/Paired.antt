@@ -14,26 +14,30 @@ use Rattle.definitions.specs.Calls.{independent, fits}
 use Rattle.laws.specs.Loadable.{Loadable, put-loadable, put-groups, put-actions, put-width}
 use Rattle.hierarchy.specs.declared.Rule.{Rule}
 use Rattle.hierarchy.specs.Arrays.{viewIn, Sound, actionsIn}
+use Rattle.compile.specs.Tables.{Tabled}
 use Rattle.compile.specs.Reading.{no-edit}
+use Rattle.compile.specs.Weighing.{bucketWeight}
 use Rattle.tracing.specs.Edited.{put-independent}
 use Rattle.survey.specs.Places.{Runs}
 use Rattle.survey.specs.Between.{Between}
 use Rattle.engine.specs.declared.edit.Pair.{Pair}
 use Rattle.engine.specs.Compiled.{Compiled, compiled-from, compiled-runs}
 
--- with the old values they are map m, and with the new ones it as the edit leaves it
+-- with the old values they are map m, and with the new ones it as the edit leaves it; the loads are the weights of its buckets then
 pub record Paired (m : Map) (c : Change) (p : Pair) : Type 0 where
   pub old : Compiled m (p .plan) (p .old) (p .rule)
   pub new : Compiled (put m c) (p .plan) (p .new) (p .rule)
+  pub loads : Tabled (p .loads) 256 (bucketWeight (put m c))
 
 -- from what `weigh` ensures of each values, and `rule_of` of the rule
-pub paired : (m : Map) (c : Change) (plan old new : List ℕ) (rule : Rule) → viewIn plan old ≡ viewOf (put m Malformed) → viewIn plan new ≡ viewOf (put m c)
-    → Sound plan → (actionsIn rule ≡ actionsOf m) × (rule .len ≡ length (m .steps)) × (rule .len ≤ 16)
-    → Paired m c (record { plan = plan; old = old; new = new; rule = rule })
-paired m c plan old new rule e e′ s r =
+pub paired : (m : Map) (c : Change) (plan old new loads : List ℕ) (rule : Rule) → viewIn plan old ≡ viewOf (put m Malformed) → viewIn plan new ≡ viewOf (put m c)
+    → Tabled loads 256 (bucketWeight (put m c)) → Sound plan → (actionsIn rule ≡ actionsOf m) × (rule .len ≡ length (m .steps)) × (rule .len ≤ 16)
+    → Paired m c (record { plan = plan; old = old; new = new; loads = loads; rule = rule })
+paired m c plan old new loads rule e e′ l s r =
     record {
       old = compiled-from m m plan old rule refl (e ∙ ap viewOf (no-edit m)) s r;
       new = compiled-from m (put m c) plan new rule (sym (put-actions m c)) e′ s r;
+      loads = l;
     }
 
 -- what is known of the two maps

@@ -13,6 +13,8 @@ ghost use Rattle.definitions.specs.Writing.{mapText};
 ghost use Rattle.definitions.specs.Calls.{independent, fits, editOf};
 ghost use Rattle.text.specs.Shape.{shapeOf};
 ghost use Rattle.text.specs.RoundTrip.{Framed};
+ghost use Rattle.compile.specs.Tables.{Tabled};
+ghost use Rattle.compile.specs.Weighing.{bucketWeight};
 ghost use Rattle.engine.specs.Answers.{editAnswer};
 ghost use Rattle.engine.specs.Fitting.{Fitted, PlaceOf};
 ghost use Rattle.engine.specs.Paired.{Paired};
@@ -35,11 +37,13 @@ pub struct Edited {
     pub moves: u32,
 }
 
-// A map in flat arrays before an edit and after it: the plan and the rule are the same.
+// A map in flat arrays before an edit and after it: the plan and the rule are the same. The loads are the weights of the buckets after it, by
+// number.
 pub struct Pair {
     pub plan: [u32; 2305],
     pub old: [u32; 2304],
     pub new: [u32; 2304],
+    pub loads: [u32; 256],
     pub rule: Rule,
 }
 
@@ -72,9 +76,10 @@ fn fitting(map: &[u8], n: usize, c: Change) -> Found
     }
 }
 
-// Puts the value of an edit that fits into device k of the text.
-fn put_value(map: &mut [u8], k: usize, c: Change)
-    requires { ⌜ (loadNumber (now map) ≡ 0) × (fits (mapOf (now map)) c ≡ true) × PlaceOf (mapOf (now map)) c k ⌝ }
+// Puts the value of an edit that fits into device k of the text, and behind a weight the weights of the buckets.
+fn put_value<'a, 'b>(map: &'a mut [u8], s: Shape, k: usize, c: Change, loads: &'b [u32; 256])
+    requires { ⌜ (loadNumber (now map) ≡ 0) × (s ≡ shapeOf (framesIn (now map))) × (fits (mapOf (now map)) c ≡ true) × PlaceOf (mapOf (now map)) c k ⌝ }
+    requires { ⌜ Tabled (now loads) 256 (bucketWeight (put (mapOf (now map)) c)) ⌝ }
     ensures { λ _. ⌜ now (map .exit) ≡ mapText (put (mapOf (now (map .entry))) c) ⌝ }
 {
     match c {
@@ -83,6 +88,7 @@ fn put_value(map: &mut [u8], k: usize, c: Change)
         }
         Change::Weight(d, v) => {
             edit_frame::put_weight(map, k, v);
+            edit_frame::put_sums(map, s, loads);
         }
         Change::Malformed => {}
     }
@@ -94,13 +100,17 @@ fn pair_of(map: &[u8], s: Shape, c: Change) -> Pair
     ensures { λ r. ⌜ Paired (mapOf (now (map .entry))) c r ⌝ }
 {
     let plan = compile::plan_of(map, s);
-    let old = compile::weigh(map, s, Change::Malformed, &plan);
-    let new = compile::weigh(map, s, c, &plan);
+    let before = compile::weigh(map, s, Change::Malformed, &plan);
+    let old = before.values;
+    let after = compile::weigh(map, s, c, &plan);
+    let new = after.values;
+    let loads = after.loads;
     let rule = steps::rule_of(map, s);
     Pair {
         plan: plan,
         old: old,
         new: new,
+        loads: loads,
         rule: rule,
     }
 }
@@ -143,7 +153,7 @@ fn edit_device(
         table,
         space,
     );
-    put_value(map, k, c);
+    put_value(map, s, k, c, &p.loads);
     Edited { number: 0, moves }
 }
 

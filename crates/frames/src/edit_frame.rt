@@ -2,18 +2,21 @@
 ghost use mathlib.Core.Path.{_≡_};
 ghost use Prim.Native.Nat.{_+_, _<_, _≤_};
 ghost use lib.ListN.{length, getD};
-ghost use Rattle.definitions.specs.Frames.{hex};
+ghost use Rattle.definitions.specs.Frames.{hex, framesIn};
 ghost use Rattle.definitions.specs.Map.{mapOf};
 ghost use Rattle.definitions.specs.Edit.{changeOf};
+ghost use Rattle.text.specs.Shape.{shapeOf};
 ghost use Rattle.text.specs.Places.{splice};
 ghost use Rattle.text.specs.RoundTrip.{Framed};
-ghost use Rattle.text.specs.Records.{noDevice};
-ghost use Rattle.text.specs.Edit.{withDevice, accepting, weighing, Edited};
+ghost use Rattle.text.specs.Records.{noDevice, noBucket};
+ghost use Rattle.text.specs.Edit.{withDevice, withBucket, accepting, weighing, bearing, borneBy, bearingAll, Edited};
 ghost use Rattle.frames.specs.Found.{FoundIs};
+ghost use Rattle.frames.specs.Sums.{Numbered};
 use crate::digits;
 use crate::lines;
 use crate::records;
 use definitions::Change;
+use text::Shape;
 
 // Where a device stands among the devices.
 pub enum Found {
@@ -86,4 +89,42 @@ pub fn put_weight(t: &mut [u8], k: usize, v: u32)
 {
     let a = lines::GROUPS + k * lines::DEVICE + records::WEIGHT_AT;
     put_at(t, a, v);
+}
+
+// Makes v the weight written of bucket k.
+fn put_sum(t: &mut [u8], s: Shape, k: usize, v: u32)
+    requires { ⌜ Framed (now t) × (s ≡ shapeOf (framesIn (now t))) × (k < length (mapOf (now t) .buckets)) ⌝ }
+    ensures { λ _. ⌜ Edited (now (t .exit))
+        (withBucket k (bearing (getD (mapOf (now (t .entry)) .buckets) k noBucket) v) (mapOf (now (t .entry)))) ⌝ }
+{
+    let a = lines::GROUPS + s.devices * lines::DEVICE + k * lines::BUCKET + records::SUM_AT;
+    put_at(t, a, v);
+}
+
+// Makes the weight written of bucket k what the sums have of its number. Digits are written only where it is another: of the buckets above an
+// edited drive.
+fn bring_up<'a, 'b>(t: &'a mut [u8], s: Shape, k: usize, sums: &'b [u32])
+    requires { ⌜ Framed (now t) × (s ≡ shapeOf (framesIn (now t))) × (k < length (mapOf (now t) .buckets)) ⌝ }
+    requires { ⌜ getD (mapOf (now t) .buckets) k noBucket .number < length (now sums) ⌝ }
+    ensures { λ _. ⌜ Edited (now (t .exit)) (withBucket k (borneBy (now (sums .entry)) (getD (mapOf (now (t .entry)) .buckets) k noBucket)) (mapOf (now (t .entry)))) ⌝ }
+{
+    let b = records::bucket(t, s, k);
+    let v = sums[b.number as usize];
+    if b.weight == v {
+        return;
+    }
+    put_sum(t, s, k, v);
+}
+
+// The same of each bucket.
+pub fn put_sums<'a, 'b>(t: &'a mut [u8], s: Shape, sums: &'b [u32])
+    requires { ⌜ Framed (now t) × (s ≡ shapeOf (framesIn (now t))) × Numbered (length (now sums)) (mapOf (now t)) ⌝ }
+    ensures { λ _. ⌜ Edited (now (t .exit)) (bearingAll (now (sums .entry)) (mapOf (now (t .entry)))) ⌝ }
+{
+    let n = s.buckets;
+    let mut k: usize = 0;
+    while k < n {
+        bring_up(t, s, k, sums);
+        k += 1;
+    }
 }

@@ -14,7 +14,7 @@ pub const GROUPS: usize = 11;
 
 pub const DEVICE: usize = 23;
 
-pub const BUCKET: usize = 11;
+pub const BUCKET: usize = 19;
 
 pub const LINK: usize = 15;
 

@@ -21,6 +21,9 @@ pub const WEIGHT_AT: usize = 6;
 
 pub const ACCEPTANCE_AT: usize = 14;
 
+// Where a bucket's weight stands in its line.
+pub const SUM_AT: usize = 10;
+
 // The count of groups.
 pub fn groups(t: &[u8]) -> u32
     requires { ⌜ Framed (now t) ⌝ }
@@ -52,6 +55,7 @@ pub fn bucket(t: &[u8], s: Shape, k: usize) -> Bucket
         number: digits::field(t, at + 2, 4),
         ty: digits::field(t, at + 6, 2),
         kind: digits::field(t, at + 8, 2),
+        weight: digits::field(t, at + SUM_AT, 8),
     }
 }
 

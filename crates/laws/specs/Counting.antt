@@ -241,6 +241,17 @@ module _ (p : ℕ → Bool) (g : ℕ → ℕ) (one : (x y : ℕ) → p x ≡ tru
   distinct-map (x ∷ xs) e d =
       rw (has-map x xs (every-head p x xs e) (every-tail p x xs e) (distinct-head x xs d)) (distinct-map xs (every-tail p x xs e) (distinct-tail x xs d))
 
+-- a number that no entry has is looked up as 0
+pub lookup-none : {A : Type 0} (number f : A → ℕ) (k : ℕ) (xs : List A) → someOf (λ (x : A). eqb (number x) k) xs ≡ false → lookup number f k xs ≡ 0
+unfolding someOf lookup
+lookup-none number f k [] e = refl
+lookup-none number f k (x ∷ xs) e = go (eqb (number x) k) e (lookup-none number f k xs)
+  where
+    go : (b : Bool) → (b || someOf (λ (y : _). eqb (number y) k) xs) ≡ false
+        → (someOf (λ (y : _). eqb (number y) k) xs ≡ false → lookup number f k xs ≡ 0) → cond b (f x) (lookup number f k xs) ≡ 0
+    go true q ih = absurd (let z : _≡_ {A = ℕ} 0 1 = cc in omega arith)
+    go false q ih = ih q
+
 -- ---- an entry looked up in a list that h changes, where h keeps each entry's number
 
 module _ {A : Type 0} (f g : A → ℕ) (h : A → A) (keeps : (x : A) → f (h x) ≡ f x) where

@@ -30,7 +30,7 @@ module _ (m : Map) (L : Loadable m) where
   pub bucket-filled : (b : ℕ) → hasBucket m b ≡ true → 0 < length (childrenOf m b)
   unfolding hasBucket filled
   bucket-filled b e =
-      let none : Bucket = record { number = 0; ty = 0; kind = 0 } in
+      let none : Bucket = record { number = 0; ty = 0; kind = 0; weight = 0 } in
       let (k, l, q) = number-at (λ (c : Bucket). c .number) none b (m .buckets) e in
       let h = every-at (λ (c : Bucket). ltb 0 (length (childrenOf m (c .number)))) (m .buckets) k none (L .filled) l in
       subst (λ (n : ℕ). 0 < length (childrenOf m n)) q (ltb-true 0 _ h)
@@ -85,7 +85,7 @@ module _ (m : Map) (L : Loadable m) where
   unfolding hasBucket
   buckets-some =
       let (b, e) = has-bucket in
-      let (k, l, q) = number-at (λ (c : Bucket). c .number) (record { number = 0; ty = 0; kind = 0 }) b (m .buckets) e in
+      let (k, l, q) = number-at (λ (c : Bucket). c .number) (record { number = 0; ty = 0; kind = 0; weight = 0 }) b (m .buckets) e in
       omega (arith, l)
 
   -- and a device

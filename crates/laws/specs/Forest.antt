@@ -12,6 +12,7 @@ use lib.Dec.{ltb, eqb}
 use lib.ListN.{length, getD, length-map, List·getD-eq-default}
 use borrow.Author.Tests.{leb-true, ltb-true, eqb-true, le-leb, lt-leb}
 use Rattle.definitions.specs.declared.Device.{Device}
+use Rattle.definitions.specs.declared.Bucket.{Bucket}
 use Rattle.definitions.specs.declared.Link.{Link}
 use Rattle.definitions.specs.declared.Change.{Change}
 use Rattle.definitions.specs.declared.Change.the-variants.{Acceptance, Weight, Malformed}
@@ -20,14 +21,14 @@ use Rattle.definitions.specs.Lists.{kept, lookup, sum, distinct}
 use Rattle.definitions.specs.Straw.{drawOf}
 use Rattle.definitions.specs.Map.{Map, bucketItem, isBucket, bucketNumber}
 use Rattle.definitions.specs.View.{childrenOf, bucketType, typeBy, typeOf, deviceWeight, weightBy, weightIn, weightOf, weightsOf, viewOf}
-use Rattle.definitions.specs.Load.{hasDevice, once, falling, light}
-use Rattle.definitions.specs.Edit.{put}
-use Rattle.laws.specs.Lists.{getD-mapped}
+use Rattle.definitions.specs.Load.{hasDevice, once, falling, summed, light}
+use Rattle.definitions.specs.Edit.{withWeight, withDevices, withSum, withSums, put}
+use Rattle.laws.specs.Lists.{every-at, getD-mapped}
 use Rattle.laws.specs.Counting.{distinct-kept, distinct-tail}
 use Rattle.laws.specs.Members.{mem-every, mem-kept, mem-at, at-mem, not-again, one-member, one-index, map-ext}
 use Rattle.laws.specs.Draw.{draw-law}
 use Rattle.laws.specs.Kinds.{drawn-child}
-use Rattle.laws.specs.Loadable.{Loadable, put-type, put-children, put-weight, acceptance-leaves-weight}
+use Rattle.laws.specs.Loadable.{Loadable, put-type, put-children, put-weight, sums-leave-weights}
 use Rattle.laws.specs.Fuel.{weight-enough, Sinks}
 
 -- ---- forests
@@ -209,17 +210,19 @@ kid-link m i c = go (isBucket i) refl
         (l, j, omega (arith, eqb-true (l .bucket) (bucketNumber i) p, leb-true 65536 i e), q)
     go false e n = elim n [ ]
 
+-- a child's type is below its bucket's
+pub kid-falls : (m : Map) → falling m ≡ true → (b c : ℕ) → List·Memᴰ c (kidsOf m b) → typeOf m c < typeOf m b
+unfolding falling
+kid-falls m f b c n =
+    let (l, k, p, q) = kid-link m b c n in
+    let h = ltb-true (typeOf m (l .child)) (bucketType m (l .bucket)) (mem-every (λ (l : Link). ltb (typeOf m (l .child)) (bucketType m (l .bucket))) k f) in
+    omega (arith, h, ap (typeOf m) p, ap (typeOf m) q, type-bucket m (l .bucket))
+
 -- the items of a loadable map are a forest
 pub forest : (m : Map) → Loadable m → Forest (kidsOf m) (typeOf m)
-unfolding falling once kidsOf childrenOf distinct
-forest m L = record { falls = falls; apart = λ b. apart b (isBucket b); one = one }
+unfolding once kidsOf childrenOf distinct
+forest m L = record { falls = kid-falls m (L .falling); apart = λ b. apart b (isBucket b); one = one }
   where
-    falls : (b c : ℕ) → List·Memᴰ c (kidsOf m b) → typeOf m c < typeOf m b
-    falls b c n =
-        let (l, k, p, q) = kid-link m b c n in
-        let h = ltb-true (typeOf m (l .child)) (bucketType m (l .bucket)) (mem-every (λ (l : Link). ltb (typeOf m (l .child)) (bucketType m (l .bucket))) k (L .falling)) in
-        omega (arith, h, ap (typeOf m) p, ap (typeOf m) q, type-bucket m (l .bucket))
-
     apart : (b : ℕ) (t : Bool) → distinct (cond t (childrenOf m (bucketNumber b)) []) ≡ true
     apart b true = distinct-kept (λ (l : Link). l .child) (λ (l : Link). eqb (l .bucket) (bucketNumber b)) (m .links) (L .once)
     apart b false = refl
@@ -263,18 +266,17 @@ weight-device m i h = rw (type-device m i h, lt-leb 65536 i h)
 abbrev pub totalOf : List Device → ℕ
 totalOf ds = sum (map (λ (d : Device). d .weight) ds)
 
-module _ (m : Map) (L : Loadable m) where
-  -- a bucket's weight is the sum of its children's
-  pub weight-bucket : (b : ℕ) → weightOf m (bucketItem b) ≡ sum (weightsOf m b)
-  unfolding weightIn weightBy weightsOf
-  weight-bucket b =
-      let i = bucketItem b in
-      let n : bucketNumber i ≡ b = omega arith in
-      let e : weightIn m (suc (typeOf m i)) i ≡ sum (map (weightIn m (typeOf m i)) (childrenOf m b)) = rw (le-leb 65536 i (omega arith), n) in
-      sym (weight-enough m (L .falling) (suc (typeOf m i)) i (omega arith)) ∙ e
-      ∙ ap sum
-      (map-ext (weightIn m (typeOf m i)) (weightOf m) (childrenOf m b)
-      (λ c k. weight-enough m (L .falling) (typeOf m i) c (omega (arith, forest m L .falls i c (rw (kids-bucket m b) k)))))
+-- a bucket's weight is the sum of its children's
+pub weight-bucket : (m : Map) → falling m ≡ true → (b : ℕ) → weightOf m (bucketItem b) ≡ sum (weightsOf m b)
+unfolding weightIn weightBy weightsOf
+weight-bucket m f b =
+    let i = bucketItem b in
+    let n : bucketNumber i ≡ b = omega arith in
+    let e : weightIn m (suc (typeOf m i)) i ≡ sum (map (weightIn m (typeOf m i)) (childrenOf m b)) = rw (le-leb 65536 i (omega arith), n) in
+    sym (weight-enough m f (suc (typeOf m i)) i (omega arith)) ∙ e
+    ∙ ap sum
+    (map-ext (weightIn m (typeOf m i)) (weightOf m) (childrenOf m b)
+    (λ c k. weight-enough m f (typeOf m i) c (omega (arith, kid-falls m f i c (rw (kids-bucket m b) k)))))
 
 one-more : (d : Device) (ds : List Device) (i : ℕ) → (ownIn ds i ≡ ownIn (d ∷ ds) i) ⊎ ((i ≡ d .number) × (ownIn (d ∷ ds) i ≤ ownIn ds i + d .weight))
 unfolding ownIn lookup
@@ -333,9 +335,13 @@ raises-by p q R =
       rises = λ i. omega (arith, p i, q i, R .rises i);
     }
 
+-- a bucket with another weight written
+abbrev withWritten : Bucket → ℕ → Bucket
+withWritten b w = record { number = b .number; ty = b .ty; kind = b .kind; weight = w }
+
 -- an edit leaves each item's children
 pub put-kids : (m : Map) (c : Change) → kidsOf (put m c) ≡ kidsOf m
-unfolding put kidsOf childrenOf
+unfolding put withSums kidsOf childrenOf
 put-kids m (Acceptance d a) = refl
 put-kids m (Weight d w) = refl
 put-kids m Malformed = refl
@@ -347,14 +353,6 @@ put-weight-at m c i =
     weight-at (put m c) (typeOf (put m c) i) i
     ∙ ap (λ (k : ℕ → List ℕ). weightAt k (ownIn (put m c .devices)) (typeOf (put m c) i) i) (put-kids m c)
     ∙ ap (λ (f : ℕ). weightAt (kidsOf m) (ownIn (put m c .devices)) f i) (put-type m c i)
-
--- an edit of an acceptance changes no weight
-pub acceptance-leaves-weights : (m : Map) (d a i : ℕ) → weightOf (put m (Acceptance d a)) i ≡ weightOf m i
-unfolding weightOf ownIn deviceWeight
-acceptance-leaves-weights m d a i =
-    put-weight-at m (Acceptance d a) i
-    ∙ ap (λ (own : ℕ → ℕ). weightAt (kidsOf m) own (typeOf m i) i) (λ t. λ (j : ℕ). cond (isBucket j) 0 (acceptance-leaves-weight m d a j t))
-    ∙ sym (weight-at m (typeOf m i) i)
 
 module _ (m : Map) (d x : ℕ) (h : hasDevice m d ≡ true) where
   own-put : (i : ℕ) → ownIn (put m (Weight d x) .devices) i ≡ cond (isBucket i) 0 (cond (eqb i d) x (deviceWeight m i))
@@ -402,6 +400,43 @@ module _ (m : Map) (d x : ℕ) (h : hasDevice m d ≡ true) where
         raises-by (put-weight-at m (Weight d x)) (λ i. weight-at m (typeOf m i) i)
         (raised (kidsOf m) (typeOf m) (forest m L) (ownIn (put m (Weight d x) .devices)) (ownIn (m .devices)) d
         (λ i. ⊎-elim (λ e. inl (sym e)) (λ e. inr e) (own-only i)) (own-less l))
+
+    -- so an edit of a weight changes no bucket but those that hold the device, and of these the weight alone
+    pub only-above : (b₀ : Bucket) (k : ℕ) → k < length (m .buckets)
+        → (getD (put m (Weight d x) .buckets) k b₀ ≡ getD (m .buckets) k b₀)
+        ⊎ (Holds (kidsOf m) (bucketItem (getD (m .buckets) k b₀ .number)) d × (getD (put m (Weight d x) .buckets) k b₀ ≡ withSum (put m (Weight d x)) (getD (m .buckets) k b₀)))
+    unfolding put withSums summed
+    only-above b₀ k l = go (decLt x (deviceWeight m d))
+      where
+        n : Map
+        n = withDevices m (map (withWeight d x) (m .devices))
+
+        b : Bucket
+        b = getD (m .buckets) k b₀
+
+        i : ℕ
+        i = bucketItem (b .number)
+
+        written : b .weight ≡ weightOf m i
+        written = eqb-true _ _ (every-at (λ (a : Bucket). eqb (a .weight) (weightOf m (bucketItem (a .number)))) (m .buckets) k b₀ (L .summed) l)
+
+        now : getD (map (withSum n) (m .buckets)) k b₀ ≡ withSum (put m (Weight d x)) b
+        now = getD-mapped (withSum n) (m .buckets) k b₀ b₀ l ∙ ap (withWritten b) (sym (sums-leave-weights n i))
+
+        told : (weightOf m i ≡ weightOf (put m (Weight d x)) i) ⊎ Holds (kidsOf m) i d
+            → (getD (map (withSum n) (m .buckets)) k b₀ ≡ b) ⊎ (Holds (kidsOf m) i d × (getD (map (withSum n) (m .buckets)) k b₀ ≡ withSum (put m (Weight d x)) b))
+        told (inl e) = inl (now ∙ ap (withWritten b) (sym (written ∙ e)))
+        told (inr h) = inr (h, now)
+
+        go : Dec (x < deviceWeight m d)
+            → (getD (map (withSum n) (m .buckets)) k b₀ ≡ b) ⊎ (Holds (kidsOf m) i d × (getD (map (withSum n) (m .buckets)) k b₀ ≡ withSum (put m (Weight d x)) b))
+        go (yes h) = told (⊎-elim (λ e. inl (sym e)) (λ g. inr g) (put-lowers (omega arith) .only i))
+        go (no h) = told (put-raises (omega arith) .only i)
+
+-- and one of an acceptance changes none
+pub acceptance-leaves-buckets : (m : Map) (d a : ℕ) → put m (Acceptance d a) .buckets ≡ m .buckets
+unfolding put
+acceptance-leaves-buckets m d a = refl
 
 -- the children's weights after an edit
 pub put-weights : (m : Map) (c : Change) (b : ℕ) → weightsOf (put m c) b ≡ map (weightOf (put m c)) (childrenOf m b)

@@ -276,7 +276,7 @@ module _ (m : Map) (L : Loadable m) where
   bucket-there : (b : ℕ) → hasBucket m b ≡ true → (k : Bucket) × (k .number ≡ b) × (bucketType m b ≡ k .ty) × BucketRanged k
   unfolding hasBucket bucketType
   bucket-there b e =
-      let none : Bucket = record { number = 0; ty = 0; kind = 0 } in
+      let none : Bucket = record { number = 0; ty = 0; kind = 0; weight = 0 } in
       let (k, l, q, t) = lookup-is (λ (c : Bucket). c .number) none (λ (c : Bucket). c .ty) b (m .buckets) (rising-is m (L .rising) .buckets) e in
       (getD (m .buckets) k none, q, t, bucket-ranged _ (every-at bucketRanged (m .buckets) k none (ranged-is m (L .ranged) .buckets) l))
 

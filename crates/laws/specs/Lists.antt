@@ -85,6 +85,18 @@ unfolding every
 every-map f g [] = refl
 every-map f g (x ∷ xs) = rw (every-map f g xs) refl
 
+-- a test that each passes
+pub every-all : {A : Type 0} (f : A → Bool) (xs : List A) → ((x : A) → f x ≡ true) → every f xs ≡ true
+unfolding every
+every-all f [] h = refl
+every-all f (x ∷ xs) h = and-both (h x) (every-all f xs h)
+
+-- the same, by places
+pub every-by : {A : Type 0} (f : A → Bool) (xs : List A) (d : A) → ((i : ℕ) → i < length xs → f (getD xs i d) ≡ true) → every f xs ≡ true
+unfolding every
+every-by f [] d h = refl
+every-by f (x ∷ xs) d h = and-both (h 0 (omega arith)) (every-by f xs d (λ i l. h (suc i) (omega arith)))
+
 -- a test that follows from another
 pub every-mono : {A : Type 0} (f g : A → Bool) (xs : List A) → ((x : A) → f x ≡ true → g x ≡ true) → every f xs ≡ true → every g xs ≡ true
 unfolding every

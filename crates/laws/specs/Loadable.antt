@@ -2,12 +2,12 @@
 use mathlib.Core.Path.{_≡_, refl, sym, ap, _∙_}
 use mathlib.Core.Bool.{Bool, true, false, cond, _&&_, _||_}
 use mathlib.Core.Logic.{_⊎_, inl, inr}
-use mathlib.Core.List.{List, map}
+use mathlib.Core.List.{List, [], _∷_, map}
 use Prim.Native.Nat.{ℕ, zero, suc, _%_, _<_, _≤_}
 use native.Mathlib.Omega.{arith}
 use lib.Dec.{leb, ltb, eqb}
 use lib.ListN.{length, getD, length-map}
-use borrow.Author.Tests.{leb-true, ltb-true, eqb-true, lt-ltb, le-leb}
+use borrow.Author.Tests.{leb-true, ltb-true, eqb-true, lt-ltb, le-leb, eq-eqb}
 use Rattle.definitions.specs.declared.Device.{Device}
 use Rattle.definitions.specs.declared.Bucket.{Bucket}
 use Rattle.definitions.specs.declared.Link.{Link}
@@ -17,14 +17,14 @@ use Rattle.definitions.specs.declared.Standing.{Standing}
 use Rattle.definitions.specs.declared.Standing.the-variants.{Outside, Inside, Broken}
 use Rattle.definitions.specs.declared.Change.{Change}
 use Rattle.definitions.specs.declared.Change.the-variants.{Acceptance, Weight, Malformed}
-use Rattle.definitions.specs.Lists.{every, someOf, linked, sum, firstNo}
-use Rattle.definitions.specs.Map.{Map, isBucket, bucketNumber, actionsOf}
-use Rattle.definitions.specs.View.{childrenOf, bucketType, kindFrom, kindNumber, bucketKind, typeBy, typeOf, acceptanceOf, deviceWeight}
+use Rattle.definitions.specs.Lists.{every, someOf, linked, lookup, sum, firstNo}
+use Rattle.definitions.specs.Map.{Map, bucketItem, isBucket, bucketNumber, actionsOf}
+use Rattle.definitions.specs.View.{childrenOf, bucketType, kindFrom, kindNumber, bucketKind, typeBy, typeOf, acceptanceOf, deviceWeight, weightBy, weightIn, weightOf}
 use Rattle.definitions.specs.Rule.{widths, widthOf}
-use Rattle.definitions.specs.Load.{within, deviceRanged, bucketRanged, linkRanged, stepRanged, ranged, linkBelow, rising, hasDevice, hasBucket, hasItem, takesPresent, present, once, falling, filled, narrow, stand, standing, isOutside, inBlocks, typed, slim, light, mapQuestions, loadable}
-use Rattle.definitions.specs.Edit.{withAcceptance, withWeight, put}
+use Rattle.definitions.specs.Load.{within, deviceRanged, bucketRanged, linkRanged, stepRanged, ranged, linkBelow, rising, hasDevice, hasBucket, hasItem, takesPresent, present, once, falling, filled, narrow, stand, standing, isOutside, inBlocks, typed, slim, summed, light, mapQuestions, loadable}
+use Rattle.definitions.specs.Edit.{withAcceptance, withWeight, withDevices, withSum, withSums, put}
 use Rattle.definitions.specs.Calls.{fits}
-use Rattle.laws.specs.Lists.{both, every-map, every-mono}
+use Rattle.laws.specs.Lists.{both, every-map, every-mono, every-all}
 use Rattle.laws.specs.Questions.{answerTo, answered}
 use Rattle.laws.specs.Counting.{distinct-most, distinct-map, rising-bound, sum-bound, every-ext, some-map, linked-map, map-keeps, lookup-keeps, lookup-puts}
 
@@ -42,6 +42,7 @@ pub record Loadable (m : Map) : Type 0 where
   pub inBlocks : inBlocks m ≡ true
   pub typed : typed m ≡ true
   pub slim : slim m ≡ true
+  pub summed : summed m ≡ true
   pub light : light m ≡ true
 
 -- load's answer gives each question's
@@ -49,12 +50,12 @@ pub loadable-is : (m : Map) → loadable m ≡ true → Loadable m
 unfolding loadable mapQuestions every answerTo
 loadable-is m e =
     let y = answered (mapQuestions m) refl (eqb-true _ _ e) in
-    record { ranged = y 5; rising = y 6; present = y 7; once = y 8; falling = y 9; filled = y 22; narrow = y 10; inBlocks = y 11; typed = y 21; slim = y 12; light = y 13 }
+    record { ranged = y 5; rising = y 6; present = y 7; once = y 8; falling = y 9; filled = y 22; narrow = y 10; inBlocks = y 11; typed = y 21; slim = y 12; summed = y 23; light = y 13 }
 
 -- and these give load's
 pub is-loadable : (m : Map) → Loadable m → loadable m ≡ true
 unfolding loadable mapQuestions firstNo
-is-loadable m l = rw (l .ranged, l .rising, l .present, l .once, l .falling, l .filled, l .narrow, l .inBlocks, l .typed, l .slim, l .light)
+is-loadable m l = rw (l .ranged, l .rising, l .present, l .once, l .falling, l .filled, l .narrow, l .inBlocks, l .typed, l .slim, l .summed, l .light)
 
 -- ---- questions taken apart
 
@@ -320,35 +321,35 @@ keeps-weighing d w e = cond-keeps number (eqb (e .number) d) (weighing w e) e re
 module _ (m : Map) where
   -- the groups
   pub put-groups : (c : Change) → put m c .groups ≡ m .groups
-  unfolding put
+  unfolding put withSums
   put-groups (Acceptance d a) = refl
   put-groups (Weight d w) = refl
   put-groups Malformed = refl
 
-  -- the buckets
-  pub put-buckets : (c : Change) → put m c .buckets ≡ m .buckets
-  unfolding put
-  put-buckets (Acceptance d a) = refl
-  put-buckets (Weight d w) = refl
-  put-buckets Malformed = refl
+  -- the buckets, but for the weights that are written of them
+  put-buckets : (P : List Bucket → Type 0) → P (m .buckets) → ((n : Map) → P (map (withSum n) (m .buckets))) → (c : Change) → P (put m c .buckets)
+  unfolding put withSums
+  put-buckets P p q (Acceptance d a) = p
+  put-buckets P p q (Weight d w) = q (withDevices m (map (withWeight d w) (m .devices)))
+  put-buckets P p q Malformed = p
 
   -- the links
   pub put-links : (c : Change) → put m c .links ≡ m .links
-  unfolding put
+  unfolding put withSums
   put-links (Acceptance d a) = refl
   put-links (Weight d w) = refl
   put-links Malformed = refl
 
   -- the steps
   pub put-steps : (c : Change) → put m c .steps ≡ m .steps
-  unfolding put
+  unfolding put withSums
   put-steps (Acceptance d a) = refl
   put-steps (Weight d w) = refl
   put-steps Malformed = refl
 
   -- the devices' numbers
   pub put-numbers : (c : Change) → numbers (put m c) ≡ numbers m
-  unfolding put
+  unfolding put withSums
   put-numbers (Acceptance d a) = map-keeps (λ (e : Device). e .number) (withAcceptance d a) (keeps-accepting d a) (m .devices)
   put-numbers (Weight d w) = map-keeps (λ (e : Device). e .number) (withWeight d w) (keeps-weighing d w) (m .devices)
   put-numbers Malformed = refl
@@ -372,22 +373,31 @@ module _ (m : Map) (c : Change) where
   -- which buckets there are
   pub put-has-bucket : (b : ℕ) → hasBucket (put m c) b ≡ hasBucket m b
   unfolding hasBucket
-  put-has-bucket b = rw (put-buckets m c)
+  put-has-bucket b =
+      let p : Bucket → Bool = λ (k : Bucket). eqb (k .number) b in
+      put-buckets m (λ bs. someOf p bs ≡ someOf p (m .buckets)) refl (λ n. some-map p (withSum n) (m .buckets)) c
 
   -- which items there are
   pub put-has-item : (i : ℕ) → hasItem (put m c) i ≡ hasItem m i
   unfolding hasItem
   put-has-item i = rw (put-has-bucket (bucketNumber i), put-has-device i)
 
+  -- what is looked up of a bucket by its number, but for its weight
+  put-looked-up : (g : Bucket → ℕ) → ((n : Map) (k : Bucket) → g (withSum n k) ≡ g k) → (b : ℕ)
+      → lookup (λ (k : Bucket). k .number) g b (put m c .buckets) ≡ lookup (λ (k : Bucket). k .number) g b (m .buckets)
+  put-looked-up g h b =
+      put-buckets m (λ bs. lookup (λ (k : Bucket). k .number) g b bs ≡ lookup (λ (k : Bucket). k .number) g b (m .buckets)) refl
+      (λ n. lookup-keeps (λ (k : Bucket). k .number) g (withSum n) (λ k. refl) (h n) b (m .buckets)) c
+
   -- a bucket's type
   pub put-bucket-type : (b : ℕ) → bucketType (put m c) b ≡ bucketType m b
   unfolding bucketType
-  put-bucket-type b = rw (put-buckets m c)
+  put-bucket-type b = put-looked-up (λ (k : Bucket). k .ty) (λ n k. refl) b
 
   -- a bucket's kind
   pub put-kind-number : (b : ℕ) → kindNumber (put m c) b ≡ kindNumber m b
   unfolding kindNumber
-  put-kind-number b = rw (put-buckets m c)
+  put-kind-number b = put-looked-up (λ (k : Bucket). k .kind) (λ n k. refl) b
 
   pub put-bucket-kind : (b : ℕ) → bucketKind (put m c) b ≡ bucketKind m b
   unfolding bucketKind
@@ -449,12 +459,21 @@ module _ (m : Map) (c : Change) where
   put-takes Emit = refl
   put-takes Idle = refl
 
+  -- a test of the buckets that does not look at their weights
+  put-every : (p : Bucket → Bool) → ((n : Map) (b : Bucket) → p (withSum n b) ≡ p b) → every p (put m c .buckets) ≡ every p (m .buckets)
+  put-every p h =
+      put-buckets m (λ bs. every p bs ≡ every p (m .buckets)) refl
+      (λ n. every-map p (withSum n) (m .buckets) ∙ every-ext (λ (b : Bucket). p (withSum n b)) p (m .buckets) (h n)) c
+
   -- question 6
   pub put-rising : rising (put m c) ≡ rising m
   unfolding rising
   put-rising =
+      let below : Bucket → Bucket → Bool = λ (a b : Bucket). ltb (a .number) (b .number) in
+      let e : linked below (put m c .buckets) ≡ linked below (m .buckets)
+      = put-buckets m (λ bs. linked below bs ≡ linked below (m .buckets)) refl (λ n. linked-map below (withSum n) (m .buckets)) c in
       rw
-      (put-buckets m c, put-links m c, ← linked-map ltb (λ (d : Device). d .number) (put m c .devices), put-numbers m c, linked-map ltb (λ (d : Device). d .number) (m .devices))
+      (e, put-links m c, ← linked-map ltb (λ (d : Device). d .number) (put m c .devices), put-numbers m c, linked-map ltb (λ (d : Device). d .number) (m .devices))
 
   -- question 7
   pub put-present : present (put m c) ≡ present m
@@ -476,12 +495,16 @@ module _ (m : Map) (c : Change) where
   -- question 22
   pub put-filled : filled (put m c) ≡ filled m
   unfolding filled
-  put-filled = simp (put-buckets m c, put-children)
+  put-filled =
+      let p : Bucket → Bool = λ (b : Bucket). ltb 0 (length (childrenOf m (b .number))) in
+      simp put-children (put-every p (λ n b. refl))
 
   -- question 10
   pub put-narrow : narrow (put m c) ≡ narrow m
   unfolding narrow
-  put-narrow = simp (put-buckets m c, put-children)
+  put-narrow =
+      let p : Bucket → Bool = λ (b : Bucket). leb (length (childrenOf m (b .number))) 64 in
+      simp put-children (put-every p (λ n b. refl))
 
   -- question 11
   pub put-in-blocks : inBlocks (put m c) ≡ inBlocks m
@@ -492,6 +515,93 @@ module _ (m : Map) (c : Change) where
   pub put-slim : slim (put m c) ≡ slim m
   unfolding slim
   put-slim = rw (put-widths, put-width)
+
+-- ---- what an edit changes
+
+module _ (m : Map) (d v : ℕ) where
+  -- an edit of an acceptance changes that of d alone
+  pub put-acceptance : hasDevice m d ≡ true → (e : ℕ) → acceptanceOf (put m (Acceptance d v)) e ≡ cond (eqb e d) v (acceptanceOf m e)
+  unfolding hasDevice acceptanceOf put
+  put-acceptance h e =
+      lookup-puts (λ (x : Device). x .number) (λ (x : Device). x .acceptance) (withAcceptance d v) (keeps-accepting d v) d v
+      (λ x. cond-ap acceptance (eqb (x .number) d) (accepting v x) x) (m .devices) h e
+
+  -- and no device's weight
+  pub acceptance-leaves-weight : (e : ℕ) → deviceWeight (put m (Acceptance d v)) e ≡ deviceWeight m e
+  unfolding deviceWeight put
+  acceptance-leaves-weight e =
+      lookup-keeps (λ (x : Device). x .number) (λ (x : Device). x .weight) (withAcceptance d v) (keeps-accepting d v)
+      (λ x. cond-keeps weight (eqb (x .number) d) (accepting v x) x refl) e (m .devices)
+
+  -- an edit of a weight changes that of d alone
+  pub put-weight : hasDevice m d ≡ true → (e : ℕ) → deviceWeight (put m (Weight d v)) e ≡ cond (eqb e d) v (deviceWeight m e)
+  unfolding hasDevice deviceWeight put withSums
+  put-weight h e =
+      lookup-puts (λ (x : Device). x .number) (λ (x : Device). x .weight) (withWeight d v) (keeps-weighing d v) d v
+      (λ x. cond-ap weight (eqb (x .number) d) (weighing v x) x) (m .devices) h e
+
+  -- and no device's acceptance
+  pub weight-leaves-acceptance : (e : ℕ) → acceptanceOf (put m (Weight d v)) e ≡ acceptanceOf m e
+  unfolding acceptanceOf put withSums
+  weight-leaves-acceptance e =
+      lookup-keeps (λ (x : Device). x .number) (λ (x : Device). x .acceptance) (withWeight d v) (keeps-weighing d v)
+      (λ x. cond-keeps acceptance (eqb (x .number) d) (weighing v x) x refl) e (m .devices)
+
+-- ---- weights are the sums, whatever is written
+
+-- two maps with the same children, types of buckets and weights of devices give their items the same weights
+module _ (m n : Map) (kids : (b : ℕ) → childrenOf n b ≡ childrenOf m b) (types : (b : ℕ) → bucketType n b ≡ bucketType m b)
+    (own : (d : ℕ) → deviceWeight n d ≡ deviceWeight m d) where
+  weight-by : (f g : ℕ → ℕ) → ((i : ℕ) → g i ≡ f i) → (i : ℕ) (b : Bool) → weightBy n g i b ≡ weightBy m f i b
+  unfolding weightBy
+  weight-by f g h i true =
+      rw (kids (bucketNumber i)) (ap sum (map-same (childrenOf m (bucketNumber i))))
+    where
+      map-same : (xs : List ℕ) → map g xs ≡ map f xs
+      map-same [] = refl
+      map-same (x ∷ xs) = rw (h x, map-same xs)
+  weight-by f g h i false = own i
+
+  weight-in : (k i : ℕ) → weightIn n k i ≡ weightIn m k i
+  unfolding weightIn
+  weight-in zero i = weight-by (λ (c : ℕ). 0) (λ (c : ℕ). 0) (λ c. refl) i (isBucket i)
+  weight-in (suc k) i = weight-by (weightIn m k) (weightIn n k) (weight-in k) i (isBucket i)
+
+  pub same-weights : (i : ℕ) → weightOf n i ≡ weightOf m i
+  unfolding weightOf typeOf typeBy
+  same-weights i = weight-in (typeOf n i) i ∙ ap (λ (k : ℕ). weightIn m k i) (go (isBucket i))
+    where
+      go : (b : Bool) → typeBy n i b ≡ typeBy m i b
+      go true = types (bucketNumber i)
+      go false = refl
+
+-- an edit of an acceptance changes no weight
+pub acceptance-leaves-weights : (m : Map) (d a i : ℕ) → weightOf (put m (Acceptance d a)) i ≡ weightOf m i
+acceptance-leaves-weights m d a =
+    same-weights m (put m (Acceptance d a)) (put-children m (Acceptance d a)) (put-bucket-type m (Acceptance d a)) (acceptance-leaves-weight m d a)
+
+-- nor does what is written of the buckets
+pub sums-leave-weights : (m : Map) (i : ℕ) → weightOf (withSums m) i ≡ weightOf m i
+unfolding withSums childrenOf bucketType deviceWeight
+sums-leave-weights m =
+    same-weights m (withSums m) (λ b. refl)
+    (λ b. lookup-keeps (λ (k : Bucket). k .number) (λ (k : Bucket). k .ty) (withSum m) (λ k. refl) (λ k. refl) b (m .buckets)) (λ d. refl)
+
+-- question 23 of buckets, where item i weighs w i
+abbrev written : (ℕ → ℕ) → Bucket → Bool
+written w b = eqb (b .weight) (w (bucketItem (b .number)))
+
+-- question 23 is answered yes after any edit
+pub put-summed : (m : Map) (c : Change) → summed m ≡ true → summed (put m c) ≡ true
+unfolding summed put withSums
+put-summed m (Acceptance d a) e =
+    every-ext (written (weightOf (put m (Acceptance d a)))) (written (weightOf m)) (m .buckets) (λ b. ap (eqb (b .weight)) (acceptance-leaves-weights m d a (bucketItem (b .number)))) ∙ e
+put-summed m (Weight d w) e =
+    let n = withDevices m (map (withWeight d w) (m .devices)) in
+    every-map (written (weightOf (withSums n))) (withSum n) (m .buckets)
+    ∙ every-all (λ (b : Bucket). written (weightOf (withSums n)) (withSum n b)) (m .buckets)
+    (λ b. eq-eqb (weightOf n (bucketItem (b .number))) _ (sym (sums-leave-weights n (bucketItem (b .number)))))
+put-summed m Malformed e = e
 
 -- ---- an edit that fits
 
@@ -508,7 +618,7 @@ weighing-ranged d w h e r =
     cond-keeps deviceRanged (eqb (e .number) d) (weighing w e) e (s ∙ sym r) ∙ r
 
 devices-ranged : (m : Map) (c : Change) → fits m c ≡ true → every deviceRanged (m .devices) ≡ true → every deviceRanged (put m c .devices) ≡ true
-unfolding fits put
+unfolding fits put withSums
 devices-ranged m (Acceptance d a) f e =
     every-map deviceRanged (withAcceptance d a) (m .devices)
     ∙ every-mono deviceRanged (λ (x : Device). deviceRanged (withAcceptance d a x)) (m .devices)
@@ -519,6 +629,10 @@ devices-ranged m (Weight d w) f e =
     (weighing-ranged d w (leb-true w 65535 (both (hasDevice m d) (leb w 65535) f .1))) e
 devices-ranged m Malformed f e = e
 
+buckets-ranged : (m : Map) (c : Change) → every bucketRanged (put m c .buckets) ≡ every bucketRanged (m .buckets)
+unfolding bucketRanged
+buckets-ranged m c = put-every m c bucketRanged (λ n b. refl)
+
 -- question 5 is answered yes after a fitting edit
 pub put-ranged : (m : Map) (c : Change) → fits m c ≡ true → ranged m ≡ true → ranged (put m c) ≡ true
 put-ranged m c f e =
@@ -528,7 +642,7 @@ put-ranged m c f e =
       least = rw (put-groups m c) (r .least);
       most = rw (put-groups m c) (r .most);
       devices = devices-ranged m c f (r .devices);
-      buckets = rw (put-buckets m c) (r .buckets);
+      buckets = buckets-ranged m c ∙ r .buckets;
       links = rw (put-links m c) (r .links);
       steps = rw (put-steps m c) (r .steps);
     })
@@ -553,36 +667,6 @@ put-loadable m c l f =
       inBlocks = put-in-blocks m c ∙ l .inBlocks;
       typed = put-typed m c ∙ l .typed;
       slim = put-slim m c ∙ l .slim;
+      summed = put-summed m c (l .summed);
       light = light-always (put m c) g r;
     }
-
--- ---- what an edit changes
-
-module _ (m : Map) (d v : ℕ) where
-  -- an edit of an acceptance changes that of d alone
-  pub put-acceptance : hasDevice m d ≡ true → (e : ℕ) → acceptanceOf (put m (Acceptance d v)) e ≡ cond (eqb e d) v (acceptanceOf m e)
-  unfolding hasDevice acceptanceOf put
-  put-acceptance h e =
-      lookup-puts (λ (x : Device). x .number) (λ (x : Device). x .acceptance) (withAcceptance d v) (keeps-accepting d v) d v
-      (λ x. cond-ap acceptance (eqb (x .number) d) (accepting v x) x) (m .devices) h e
-
-  -- and no device's weight
-  pub acceptance-leaves-weight : (e : ℕ) → deviceWeight (put m (Acceptance d v)) e ≡ deviceWeight m e
-  unfolding deviceWeight put
-  acceptance-leaves-weight e =
-      lookup-keeps (λ (x : Device). x .number) (λ (x : Device). x .weight) (withAcceptance d v) (keeps-accepting d v)
-      (λ x. cond-keeps weight (eqb (x .number) d) (accepting v x) x refl) e (m .devices)
-
-  -- an edit of a weight changes that of d alone
-  pub put-weight : hasDevice m d ≡ true → (e : ℕ) → deviceWeight (put m (Weight d v)) e ≡ cond (eqb e d) v (deviceWeight m e)
-  unfolding hasDevice deviceWeight put
-  put-weight h e =
-      lookup-puts (λ (x : Device). x .number) (λ (x : Device). x .weight) (withWeight d v) (keeps-weighing d v) d v
-      (λ x. cond-ap weight (eqb (x .number) d) (weighing v x) x) (m .devices) h e
-
-  -- and no device's acceptance
-  pub weight-leaves-acceptance : (e : ℕ) → acceptanceOf (put m (Weight d v)) e ≡ acceptanceOf m e
-  unfolding acceptanceOf put
-  weight-leaves-acceptance e =
-      lookup-keeps (λ (x : Device). x .number) (λ (x : Device). x .acceptance) (withWeight d v) (keeps-weighing d v)
-      (λ x. cond-keeps acceptance (eqb (x .number) d) (weighing v x) x refl) e (m .devices)

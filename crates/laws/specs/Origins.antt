@@ -283,7 +283,7 @@ module _ (m : Map) (L : Loadable m) (x : ℕ) where
   unfolding weightsOf
   drawn-finds r b d e =
       let z = sum-none (weightsOf m b) (λ n l. drawn-none m x r b e n (omega (arith, l, length-map (childrenOf m b) (weightOf m)))) in
-      omega (arith, z, weight-bucket m L b, drawn-weighs (bucketItem b) d)
+      omega (arith, z, weight-bucket m (L .falling) b, drawn-weighs (bucketItem b) d)
 
 -- ---- rule
 

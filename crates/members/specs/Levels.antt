@@ -29,13 +29,13 @@ unfoldable pub levelOf : Map → ℕ → ℕ
 levelOf m i = cond (hasItem m i) (typeOf m i + 1) 0
 
 -- what the table r has at the slot of item i
-abbrev pub levelAt : List ℕ → ℕ → ℕ
-levelAt r i = getD r (slotOf i) 0
+abbrev pub lookedUp : List ℕ → ℕ → ℕ
+lookedUp r i = getD r (slotOf i) 0
 
 -- the table r has each item's level at its slot
 pub record Levels (m : Map) (r : List ℕ) : Type 0 where
   pub size : length r ≡ 1280
-  pub level : (i : ℕ) → ChildRanged i → levelAt r i ≡ levelOf m i
+  pub level : (i : ℕ) → ChildRanged i → lookedUp r i ≡ levelOf m i
 
 -- ---- slots
 
@@ -83,34 +83,92 @@ module _ (m : Map) (h : ranged m ≡ true) (k : ℕ) where
 abbrev number : Device → ℕ
 number d = d .number
 
--- after the first k devices
-unfoldable pub devicesTo : Map → ℕ → List ℕ
-devicesTo m k = putTo (λ (d : Device). d .number) (λ (d : Device). 1) noDevice (m .devices) (blank 1280) k
+-- what is put of a device and of a bucket: its level, and the weight in its frame
+abbrev pub deviceLevel : Device → ℕ
+deviceLevel d = 1
 
--- from a table t, after the first k buckets
-unfoldable pub bucketsTo : Map → List ℕ → ℕ → List ℕ
-bucketsTo m t k = putTo (λ (b : Bucket). b .number + 1024) (λ (b : Bucket). b .ty + 1) noBucket (m .buckets) t k
+abbrev pub deviceOwn : Device → ℕ
+deviceOwn d = d .weight
+
+abbrev pub bucketLevel : Bucket → ℕ
+bucketLevel b = b .ty + 1
+
+abbrev pub bucketOwn : Bucket → ℕ
+bucketOwn b = b .weight
+
+-- after the first k devices, f of each at its slot
+unfoldable pub devicesTo : (Device → ℕ) → Map → ℕ → List ℕ
+devicesTo f m k = putTo (λ (d : Device). d .number) f noDevice (m .devices) (blank 1280) k
+
+-- from a table t, after the first k buckets, f of each
+unfoldable pub bucketsTo : (Bucket → ℕ) → Map → List ℕ → ℕ → List ℕ
+bucketsTo f m t k = putTo (λ (b : Bucket). b .number + 1024) f noBucket (m .buckets) t k
 
 module _ (m : Map) where
   -- a loop that makes the first: its start, and one device more
-  pub devices-none : blank 1280 ≡ devicesTo m 0
+  pub devices-none : (f : Device → ℕ) → blank 1280 ≡ devicesTo f m 0
   unfolding devicesTo putTo
-  devices-none = refl
+  devices-none f = refl
 
-  pub devices-more : (k : ℕ) (t : List ℕ) (d : Device) → t ≡ devicesTo m k → d ≡ getD (m .devices) k noDevice
-      → set t (d .number) 1 ≡ devicesTo m (k + 1)
+  pub devices-more : (f : Device → ℕ) (k : ℕ) (t : List ℕ) (d : Device) → t ≡ devicesTo f m k → d ≡ getD (m .devices) k noDevice
+      → set t (d .number) (f d) ≡ devicesTo f m (k + 1)
   unfolding devicesTo putTo
-  devices-more k t d e q = rw (add-one k, e, q)
+  devices-more f k t d e q = rw (add-one k, e, q)
 
   -- and one that makes the second
-  pub buckets-none : (t : List ℕ) → t ≡ bucketsTo m t 0
+  pub buckets-none : (f : Bucket → ℕ) (t : List ℕ) → t ≡ bucketsTo f m t 0
   unfolding bucketsTo putTo
-  buckets-none t = refl
+  buckets-none f t = refl
 
-  pub buckets-more : (t : List ℕ) (k : ℕ) (u : List ℕ) (b : Bucket) → u ≡ bucketsTo m t k → b ≡ getD (m .buckets) k noBucket
-      → set u (b .number + 1024) (b .ty + 1) ≡ bucketsTo m t (k + 1)
+  pub buckets-more : (f : Bucket → ℕ) (t : List ℕ) (k : ℕ) (u : List ℕ) (b : Bucket) → u ≡ bucketsTo f m t k → b ≡ getD (m .buckets) k noBucket
+      → set u (b .number + 1024) (f b) ≡ bucketsTo f m t (k + 1)
   unfolding bucketsTo putTo
-  buckets-more t k u b e q = rw (add-one k, e, q)
+  buckets-more f t k u b e q = rw (add-one k, e, q)
+
+  -- what both loops together put: f of the devices, which is v of their numbers, and g of the buckets, which is w of theirs
+  module _ (h : ranged m ≡ true) (r : rising m ≡ true) (f : Device → ℕ) (g : Bucket → ℕ) (v w : ℕ → ℕ)
+      (p : (k : ℕ) → k < length (m .devices) → f (getD (m .devices) k noDevice) ≡ v (getD (m .devices) k noDevice .number))
+      (q : (k : ℕ) → k < length (m .buckets) → g (getD (m .buckets) k noBucket) ≡ w (getD (m .buckets) k noBucket .number)) where
+    abbrev devicesPut : List ℕ
+    devicesPut = devicesTo f m (length (m .devices))
+
+    abbrev pub bothPut : List ℕ
+    bothPut = bucketsTo g m devicesPut (length (m .buckets))
+
+    -- what the loop over devices leaves at a device's slot, and behind those
+    device-put : (i : ℕ) → i < 1024 → getD devicesPut i 0 ≡ cond (hasDevice m i) (v i) 0
+    unfolding devicesTo hasDevice
+    device-put i l =
+        put-is number (λ (n : ℕ). n) f noDevice (m .devices) (blank 1280) v (λ a b e. e) (rising-is m r .devices) p i (omega (arith, blank-length 1280))
+        ∙ ap (cond (hasDevice m i) (v i)) (blank-at 1280 i (omega arith))
+
+    device-length : length devicesPut ≡ 1280
+    unfolding devicesTo
+    device-length = put-length number f noDevice (m .devices) (blank 1280) (length (m .devices)) ∙ blank-length 1280
+
+    device-behind : (i : ℕ) → 1024 ≤ i → i < 1280 → getD devicesPut i 0 ≡ 0
+    unfolding devicesTo
+    device-behind i k l =
+        put-other number f noDevice (m .devices) (blank 1280) i (length (m .devices)) (λ j b e. omega (arith, e, device-in m h j _ b refl .number)) ∙ blank-at 1280 i l
+
+    pub both-length : length bothPut ≡ 1280
+    unfolding bucketsTo
+    both-length = put-length (λ (b : Bucket). b .number + 1024) g noBucket (m .buckets) devicesPut (length (m .buckets)) ∙ device-length
+
+    -- what both leave at a device's slot
+    pub both-device : (i : ℕ) → i < 1024 → getD bothPut (slotOf i) 0 ≡ cond (hasDevice m i) (v i) 0
+    unfolding bucketsTo
+    both-device i l =
+        rw (← slot-device i (omega arith))
+        (put-other (λ (b : Bucket). b .number + 1024) g noBucket (m .buckets) devicesPut i (length (m .buckets)) (λ j b e. omega (arith, e)) ∙ device-put i l)
+
+    -- and at a bucket's
+    pub both-bucket : (i : ℕ) → 65536 ≤ i → i ≤ 65791 → getD bothPut (slotOf i) 0 ≡ cond (hasBucket m (bucketNumber i)) (w (bucketNumber i)) 0
+    unfolding bucketsTo hasBucket
+    both-bucket i a l =
+        rw (← slot-bucket i a)
+        (put-is (λ (b : Bucket). b .number) (λ (n : ℕ). n + 1024) g noBucket (m .buckets) devicesPut w (λ x y e. omega (arith, e)) (rising-is m r .buckets) q (i - 65536) (omega (arith, device-length))
+        ∙ ap (cond (hasBucket m (i - 65536)) (w (i - 65536))) (device-behind (i - 65536 + 1024) (omega arith) (omega arith)))
 
   -- the level of a device, and of a bucket
   level-device : (i : ℕ) → i < 65536 → levelOf m i ≡ cond (hasDevice m i) 1 0
@@ -121,57 +179,24 @@ module _ (m : Map) where
   unfolding levelOf hasItem typeOf typeBy
   level-bucket i h = rw (le-leb 65536 i h)
 
-  module _ (g : ranged m ≡ true) (r : rising m ≡ true) where
-    -- what the loop over devices leaves at a device's slot, and behind those
-    device-put : (i : ℕ) → i < 1024 → getD (devicesTo m (length (m .devices))) i 0 ≡ cond (hasDevice m i) 1 0
-    unfolding devicesTo hasDevice
-    device-put i h =
-        put-is number (λ (v : ℕ). v) (λ (d : Device). 1) noDevice (m .devices) (blank 1280) (λ (v : ℕ). 1) (λ a b e. e) (rising-is m r .devices)
-        (λ k l. refl) i (omega (arith, blank-length 1280))
-        ∙ ap (cond (hasDevice m i) 1) (blank-at 1280 i (omega arith))
+  -- of the levels
+  pub levels-are : ranged m ≡ true → rising m ≡ true → (t : List ℕ)
+      → t ≡ bucketsTo bucketLevel m (devicesTo deviceLevel m (length (m .devices))) (length (m .buckets)) → Levels m t
+  unfolding bucketType
+  levels-are h r t e = subst (Levels m) (sym e) (record { size = both-length h r deviceLevel bucketLevel v w p q; level = item })
+    where
+      v : ℕ → ℕ
+      v n = 1
 
-    device-length : length (devicesTo m (length (m .devices))) ≡ 1280
-    unfolding devicesTo
-    device-length = put-length number (λ (d : Device). 1) noDevice (m .devices) (blank 1280) (length (m .devices)) ∙ blank-length 1280
+      w : ℕ → ℕ
+      w n = bucketType m n + 1
 
-    device-behind : (i : ℕ) → 1024 ≤ i → i < 1280 → getD (devicesTo m (length (m .devices))) i 0 ≡ 0
-    unfolding devicesTo
-    device-behind i h l =
-        put-other number (λ (d : Device). 1) noDevice (m .devices) (blank 1280) i (length (m .devices))
-        (λ j b e. omega (arith, e, device-in m g j _ b refl .number))
-        ∙ blank-at 1280 i l
+      p : (k : ℕ) → k < length (m .devices) → deviceLevel (getD (m .devices) k noDevice) ≡ v (getD (m .devices) k noDevice .number)
+      p k l = refl
 
-    -- what the loop over buckets leaves at a bucket's slot, and before those
-    bucket-put : (t : List ℕ) (n : ℕ) → n + 1024 < length t → getD (bucketsTo m t (length (m .buckets))) (n + 1024) 0 ≡ cond (hasBucket m n) (bucketType m n + 1) (getD t (n + 1024) 0)
-    unfolding bucketsTo hasBucket bucketType
-    bucket-put t n h =
-        put-is (λ (b : Bucket). b .number) (λ (v : ℕ). v + 1024) (λ (b : Bucket). b .ty + 1) noBucket (m .buckets) t (λ (v : ℕ). bucketType m v + 1)
-        (λ a b e. omega (arith, e)) (rising-is m r .buckets)
-        (λ k l. ap (λ (v : ℕ). v + 1) (sym (lookup-at (λ (b : Bucket). b .number) noBucket (λ (b : Bucket). b .ty) (m .buckets) k (rising-is m r .buckets) l)))
-        n h
+      q : (k : ℕ) → k < length (m .buckets) → bucketLevel (getD (m .buckets) k noBucket) ≡ w (getD (m .buckets) k noBucket .number)
+      q k l = ap (λ (n : ℕ). n + 1) (sym (lookup-at (λ (b : Bucket). b .number) noBucket (λ (b : Bucket). b .ty) (m .buckets) k (rising-is m r .buckets) l))
 
-    bucket-before : (t : List ℕ) (i : ℕ) → i < 1024 → getD (bucketsTo m t (length (m .buckets))) i 0 ≡ getD t i 0
-    unfolding bucketsTo
-    bucket-before t i h =
-        put-other (λ (b : Bucket). b .number + 1024) (λ (b : Bucket). b .ty + 1) noBucket (m .buckets) t i (length (m .buckets)) (λ j b e. omega (arith, e))
-
-    both-length : length (bucketsTo m (devicesTo m (length (m .devices))) (length (m .buckets))) ≡ 1280
-    unfolding devicesTo bucketsTo
-    both-length =
-        put-length (λ (b : Bucket). b .number + 1024) (λ (b : Bucket). b .ty + 1) noBucket (m .buckets) (devicesTo m (length (m .devices))) (length (m .buckets))
-        ∙ device-length
-
-    -- both loops together give each item's level
-    pub levels-are : (t : List ℕ) → t ≡ bucketsTo m (devicesTo m (length (m .devices))) (length (m .buckets)) → Levels m t
-    levels-are t e = subst (Levels m) (sym e) (record { size = both-length; level = item })
-      where
-        ds : List ℕ
-        ds = devicesTo m (length (m .devices))
-
-        item : (i : ℕ) → ChildRanged i → getD (bucketsTo m ds (length (m .buckets))) (slotOf i) 0 ≡ levelOf m i
-        item i (inl a) = rw (← slot-device i (omega arith)) (bucket-before ds i a ∙ device-put i a ∙ sym (level-device i (omega arith)))
-        item i (inr (a, b)) =
-            rw (← slot-bucket i a)
-            (bucket-put ds (i - 65536) (omega (arith, device-length))
-            ∙ ap (cond (hasBucket m (i - 65536)) (bucketType m (i - 65536) + 1)) (device-behind (i - 65536 + 1024) (omega arith) (omega arith))
-            ∙ sym (level-bucket i a))
+      item : (i : ℕ) → ChildRanged i → getD (bothPut h r deviceLevel bucketLevel v w p q) (slotOf i) 0 ≡ levelOf m i
+      item i (inl a) = both-device h r deviceLevel bucketLevel v w p q i a ∙ sym (level-device i (omega arith))
+      item i (inr (a, b)) = both-bucket h r deviceLevel bucketLevel v w p q i a b ∙ sym (level-bucket i a)

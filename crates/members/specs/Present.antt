@@ -18,7 +18,7 @@ use Rattle.definitions.specs.Load.{within, takeRanged, selectRanged, emitRanged
 use Rattle.laws.specs.Lists.{both, every-at, every-map}
 use Rattle.laws.specs.Loadable.{ranged-is, ChildRanged, LinkRanged}
 use Rattle.text.specs.Records.{noStep}
-use Rattle.members.specs.Levels.{levelOf, levelAt, Levels, bucket-item}
+use Rattle.members.specs.Levels.{levelOf, lookedUp, Levels, bucket-item}
 
 -- ---- the questions of one link and one step
 
@@ -59,7 +59,7 @@ ltb-more a b = go (ltb a b) refl
 
 module _ (m : Map) (r : List ℕ) (h : Levels m r) where
   -- an item is present where its level is above 0
-  has-level : (i : ℕ) → ChildRanged i → ltb 0 (levelAt r i) ≡ hasItem m i
+  has-level : (i : ℕ) → ChildRanged i → ltb 0 (lookedUp r i) ≡ hasItem m i
   unfolding levelOf
   has-level i c = rw (h .level i c) (go (hasItem m i))
     where
@@ -67,34 +67,34 @@ module _ (m : Map) (r : List ℕ) (h : Levels m r) where
       go true = lt-ltb 0 (typeOf m i + 1) (omega arith)
       go false = refl
 
-  has-bucket-level : (b : ℕ) → b ≤ 255 → ltb 0 (levelAt r (bucketItem b)) ≡ hasBucket m b
+  has-bucket-level : (b : ℕ) → b ≤ 255 → ltb 0 (lookedUp r (bucketItem b)) ≡ hasBucket m b
   has-bucket-level b l = has-level (bucketItem b) (bucket-item b l) ∙ has-bucket m b
 
   -- where it is present, its level is its type plus 1
-  level-type : (i : ℕ) → ChildRanged i → hasItem m i ≡ true → levelAt r i ≡ typeOf m i + 1
+  level-type : (i : ℕ) → ChildRanged i → hasItem m i ≡ true → lookedUp r i ≡ typeOf m i + 1
   unfolding levelOf
   level-type i c e = h .level i c ∙ rw e
 
   -- the questions of link l, whose bucket has the level v, and its child the level w
-  module _ (l : Link) (q : LinkRanged l) (v : ℕ) (b : v ≡ levelAt r (bucketItem (l .bucket))) where
+  module _ (l : Link) (q : LinkRanged l) (v : ℕ) (b : v ≡ lookedUp r (bucketItem (l .bucket))) where
     pub link-absent : v ≡ 0 → false ≡ linkPresent m l
     link-absent z =
-        let e : hasBucket m (l .bucket) ≡ false = sym (has-bucket-level (l .bucket) (q .bucket)) ∙ le-ltb 0 (levelAt r (bucketItem (l .bucket))) (omega (arith, b, z)) in
+        let e : hasBucket m (l .bucket) ≡ false = sym (has-bucket-level (l .bucket) (q .bucket)) ∙ le-ltb 0 (lookedUp r (bucketItem (l .bucket))) (omega (arith, b, z)) in
         rw e
 
-    pub link-there : (w : ℕ) → (v ≡ 0 → ⊥) → w ≡ levelAt r (l .child) → ltb 0 w ≡ linkPresent m l
+    pub link-there : (w : ℕ) → (v ≡ 0 → ⊥) → w ≡ lookedUp r (l .child) → ltb 0 w ≡ linkPresent m l
     link-there w z c =
-        let e : hasBucket m (l .bucket) ≡ true = sym (has-bucket-level (l .bucket) (q .bucket)) ∙ lt-ltb 0 (levelAt r (bucketItem (l .bucket))) (omega (arith, b)) in
+        let e : hasBucket m (l .bucket) ≡ true = sym (has-bucket-level (l .bucket) (q .bucket)) ∙ lt-ltb 0 (lookedUp r (bucketItem (l .bucket))) (omega (arith, b)) in
         rw (e, c) (has-level (l .child) (q .child))
 
-    pub link-falls : (w : ℕ) → linkPresent m l ≡ true → w ≡ levelAt r (l .child) → ltb w v ≡ linkFalls m l
+    pub link-falls : (w : ℕ) → linkPresent m l ≡ true → w ≡ lookedUp r (l .child) → ltb w v ≡ linkFalls m l
     link-falls w p c =
         let (d, e) = both (hasBucket m (l .bucket)) (hasItem m (l .child)) p in
         rw (b, c, level-type (l .child) (q .child) e, level-type (bucketItem (l .bucket)) (bucket-item (l .bucket) (q .bucket)) (has-bucket m (l .bucket) ∙ d), type-bucket m (l .bucket))
         (ltb-more (typeOf m (l .child)) (bucketType m (l .bucket)))
 
   -- and of a step that takes a bucket, whose level is v
-  pub step-takes : (p : Step) (v : ℕ) → p .step ≡ 1 → p .bucket ≤ 255 → v ≡ levelAt r (bucketItem (p .bucket)) → ltb 0 v ≡ stepPresent m p
+  pub step-takes : (p : Step) (v : ℕ) → p .step ≡ 1 → p .bucket ≤ 255 → v ≡ lookedUp r (bucketItem (p .bucket)) → ltb 0 v ≡ stepPresent m p
   unfolding takesPresent actionOf
   step-takes p v e l q = rw (eq-eqb (p .step) 1 e, q) (has-bucket-level (p .bucket) l)
 

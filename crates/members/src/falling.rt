@@ -23,7 +23,7 @@ fn link_falls(t: &[u8], s: Shape, levels: &[u32], k: usize) -> bool
     ensures { λ r. ⌜ r ≡ linkFalls (mapOf (now (t .entry))) (getD (mapOf (now (t .entry)) .links) k noLink) ⌝ }
 {
     let l = records::link(t, s, k);
-    levels::level(levels, Item::numbered(l.child)) < levels::bucket_level(levels, l.bucket)
+    levels::look_up(levels, Item::numbered(l.child)) < levels::bucket_level(levels, l.bucket)
 }
 
 pub fn falling(t: &[u8], s: Shape, levels: &[u32]) -> bool

@@ -1,5 +1,5 @@
 // The level of each item: 0 where it is absent, and its type plus 1 where it is present. All are in one table, so that a question about a
-// link looks its two items up at once.
+// link looks its two items up at once. Beside it, read from the same frames, the weight that stands in each item's own.
 ghost use mathlib.Core.Path.{_≡_};
 ghost use mathlib.Core.Bool.{true};
 ghost use Prim.Native.Nat.{_<_, _≤_};
@@ -10,7 +10,8 @@ ghost use Rattle.definitions.specs.Load.{ranged, rising};
 ghost use Rattle.laws.specs.Loadable.{ChildRanged};
 ghost use Rattle.text.specs.Shape.{shapeOf};
 ghost use Rattle.text.specs.RoundTrip.{Framed};
-ghost use Rattle.members.specs.Levels.{slotOf, levelAt, Levels, devicesTo, bucketsTo};
+ghost use Rattle.members.specs.Levels.{slotOf, lookedUp, Levels, devicesTo, bucketsTo, deviceLevel, deviceOwn, bucketLevel, bucketOwn};
+ghost use Rattle.members.specs.Weights.{Weights};
 use frames::records;
 use item::Item;
 use text::Shape;
@@ -27,59 +28,78 @@ pub fn slot(item: Item) -> usize
     }
 }
 
-// The level of an item, from the table.
-pub fn level(levels: &[u32], item: Item) -> u32
-    requires { ⌜ (length (now levels) ≡ 1280) × ChildRanged (item .number) ⌝ }
-    ensures { λ r. ⌜ r ≡ levelAt (now (levels .entry)) (item .number) ⌝ }
+// What a table has of an item.
+pub fn look_up(table: &[u32], item: Item) -> u32
+    requires { ⌜ (length (now table) ≡ 1280) × ChildRanged (item .number) ⌝ }
+    ensures { λ r. ⌜ r ≡ lookedUp (now (table .entry)) (item .number) ⌝ }
 {
-    levels[slot(item)]
+    table[slot(item)]
 }
 
 // The level of bucket b.
 pub fn bucket_level(levels: &[u32], b: u32) -> u32
     requires { ⌜ (length (now levels) ≡ 1280) × (b ≤ 255) ⌝ }
-    ensures { λ r. ⌜ r ≡ levelAt (now (levels .entry)) (bucketItem b) ⌝ }
+    ensures { λ r. ⌜ r ≡ lookedUp (now (levels .entry)) (bucketItem b) ⌝ }
 {
-    level(levels, Item::bucket(b))
+    look_up(levels, Item::bucket(b))
 }
 
-// The table with the devices that are present, at level 1.
-fn put_devices(t: &[u8], s: Shape) -> [u32; 1280]
+// Two tables with a slot for each item.
+pub struct Items {
+    pub levels: [u32; 1280],
+    pub weights: [u32; 1280],
+}
+
+// The tables with the devices that are present, at level 1.
+fn put_devices(t: &[u8], s: Shape) -> Items
     requires { ⌜ Framed (now t) × (s ≡ shapeOf (framesIn (now t))) × (ranged (mapOf (now t)) ≡ true) ⌝ }
-    ensures { λ r. ⌜ r ≡ devicesTo (mapOf (now (t .entry))) (length (mapOf (now (t .entry)) .devices)) ⌝ }
+    ensures { λ r. ⌜ r .levels ≡ devicesTo deviceLevel (mapOf (now (t .entry))) (length (mapOf (now (t .entry)) .devices)) ⌝ }
+    ensures { λ r. ⌜ r .weights ≡ devicesTo deviceOwn (mapOf (now (t .entry))) (length (mapOf (now (t .entry)) .devices)) ⌝ }
 {
     let n = s.devices;
-    let mut table = [0u32; 1280];
+    let mut levels = [0u32; 1280];
+    let mut weights = [0u32; 1280];
     let mut k: usize = 0;
     while k < n {
         let d = records::device(t, k);
         let i = slot(Item::device(d.number));
-        table[i] = 1;
+        levels[i] = 1;
+        weights[i] = d.weight;
         k += 1;
     }
-    table
+    Items {
+        levels: levels,
+        weights: weights,
+    }
 }
 
 // The same with the buckets that are present.
-fn put_buckets(t: &[u8], s: Shape, devices: [u32; 1280]) -> [u32; 1280]
+fn put_buckets(t: &[u8], s: Shape, devices: Items) -> Items
     requires { ⌜ Framed (now t) × (s ≡ shapeOf (framesIn (now t))) × (ranged (mapOf (now t)) ≡ true) ⌝ }
-    ensures { λ r. ⌜ r ≡ bucketsTo (mapOf (now (t .entry))) devices (length (mapOf (now (t .entry)) .buckets)) ⌝ }
+    ensures { λ r. ⌜ r .levels ≡ bucketsTo bucketLevel (mapOf (now (t .entry))) (devices .levels) (length (mapOf (now (t .entry)) .buckets)) ⌝ }
+    ensures { λ r. ⌜ r .weights ≡ bucketsTo bucketOwn (mapOf (now (t .entry))) (devices .weights) (length (mapOf (now (t .entry)) .buckets)) ⌝ }
 {
     let n = s.buckets;
-    let mut table = devices;
+    let mut levels = devices.levels;
+    let mut weights = devices.weights;
     let mut k: usize = 0;
     while k < n {
         let b = records::bucket(t, s, k);
         let i = slot(Item::bucket(b.number));
-        table[i] = b.ty + 1;
+        levels[i] = b.ty + 1;
+        weights[i] = b.weight;
         k += 1;
     }
-    table
+    Items {
+        levels: levels,
+        weights: weights,
+    }
 }
 
-pub fn levels(t: &[u8], s: Shape) -> [u32; 1280]
+pub fn items_of(t: &[u8], s: Shape) -> Items
     requires { ⌜ Framed (now t) × (s ≡ shapeOf (framesIn (now t))) × (ranged (mapOf (now t)) ≡ true) × (rising (mapOf (now t)) ≡ true) ⌝ }
-    ensures { λ r. ⌜ Levels (mapOf (now (t .entry))) r ⌝ }
+    ensures { λ r. ⌜ Levels (mapOf (now (t .entry))) (r .levels) ⌝ }
+    ensures { λ r. ⌜ Weights (mapOf (now (t .entry))) (r .weights) ⌝ }
 {
     put_buckets(t, s, put_devices(t, s))
 }

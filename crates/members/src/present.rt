@@ -27,7 +27,7 @@ fn link_present(t: &[u8], s: Shape, levels: &[u32], k: usize) -> bool
     if levels::bucket_level(levels, l.bucket) == 0 {
         return false;
     }
-    0 < levels::level(levels, Item::numbered(l.child))
+    0 < levels::look_up(levels, Item::numbered(l.child))
 }
 
 fn links_present(t: &[u8], s: Shape, levels: &[u32]) -> bool

@@ -1,3 +1,4 @@
 pub mod Samples
 pub mod Libcrush
 pub mod Blocks
+pub mod Written

@@ -1,8 +1,8 @@
 -- Document 01, "Samples": the starred samples, shown of the definitions as one table under one theorem.
 use mathlib.Core.Path.{_≡_, refl}
-use mathlib.Core.Bool.{Bool, true, false, cond}
+use mathlib.Core.Bool.{Bool, cond}
 use mathlib.Core.List.{List, [], _∷_, _++_, map}
-use Prim.Native.Nat.{ℕ, zero, suc, _^_}
+use Prim.Native.Nat.{ℕ, _^_}
 use lib.ListN.{take}
 use Rattle.definitions.specs.declared.Mix.{Mix}
 use Rattle.definitions.specs.declared.Change.the-variants.{Acceptance, Weight}
@@ -26,7 +26,7 @@ abbrev pub M : List ℕ
 M =
     line 10 0x0000000002
     ++ line 22 0x0100000000000100010000
-    ++ line 10 0x0200000101
+    ++ line 18 0x020000010100000001
     ++ line 14 0x03000000000000
     ++ line 12 0x040100000000
     ++ line 12 0x040302000000
@@ -38,7 +38,7 @@ abbrev pub twoSelects : ℕ → ℕ → List ℕ
 twoSelects m n =
     line 10 0x0000000002
     ++ line 22 0x0100000000000100010000
-    ++ line 10 0x0200000201
+    ++ line 18 0x020000020100000001
     ++ line 14 0x03000000000000
     ++ line 12 0x040100000000
     ++ (hex 4 0x0403 ++ hex 2 m ++ line 6 0x010000)

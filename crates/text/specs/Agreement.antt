@@ -8,18 +8,20 @@ use Prim.Native.Nat.{ℕ, _+_, _*_, _^_, _<_, _≤_}
 use native.Mathlib.Omega.{arith}
 use lib.Dec.{eqb, leb, lit<}
 use lib.ListN.{length, length-append, length-map}
-use borrow.Author.Tests.{lt-ltb, eq-eqb, eqb-true, leb-true}
+use borrow.Author.Tests.{lt-ltb, le-leb, eq-eqb, eqb-true, leb-true}
 use Rattle.definitions.specs.declared.Device.{Device}
 use Rattle.definitions.specs.declared.Bucket.{Bucket}
 use Rattle.definitions.specs.declared.Link.{Link}
 use Rattle.definitions.specs.declared.Step.{Step}
 use Rattle.definitions.specs.Lists.{every, sum}
 use Rattle.definitions.specs.Frames.{Frame, layouts, layout, lineOf, bytesOf, textOf, lineLength}
-use Rattle.definitions.specs.Map.{Map, mapOf}
+use Rattle.definitions.specs.Map.{Map, mapOf, bucketItem}
+use Rattle.definitions.specs.View.{weightOf}
 use Rattle.definitions.specs.Writing.{frame, deviceFrame, bucketFrame, linkFrame, stepFrame, sizeOf, framesOf, mapText}
-use Rattle.definitions.specs.Load.{within, deviceRanged, bucketRanged, linkRanged, takeRanged, selectRanged, emitRanged, stepRanged, loadNumber, loadable}
-use Rattle.laws.specs.Lists.{both, and-both, every-append, every-map, every-mono}
+use Rattle.definitions.specs.Load.{within, deviceRanged, bucketRanged, linkRanged, takeRanged, selectRanged, emitRanged, stepRanged, summed, loadNumber, loadable}
+use Rattle.laws.specs.Lists.{both, and-both, every-head, every-tail, every-append, every-map, every-mono}
 use Rattle.laws.specs.Loadable.{Loadable, loadable-is, is-loadable, ranged-is, device-ranged, bucket-ranged, link-ranged, bounds}
+use Rattle.laws.specs.Forest.{weight-most}
 use Rattle.text.specs.Frames.{fits, goodFrame, frame-is-good, length-line}
 use Rattle.text.specs.Places.{text-append, length-text}
 use Rattle.text.specs.Map.{uniform}
@@ -35,11 +37,18 @@ device-good d e =
     frame-is-good (deviceFrame d) (lit< tt)
     (and-both (lt-ltb (d .number) (16 ^ 4) (omega (arith, r .number))) (and-both (lt-ltb (d .weight) (16 ^ 8) (omega (arith, r .weight))) (and-both (lt-ltb (d .acceptance) (16 ^ 8) (omega (arith, r .acceptance))) refl)))
 
-bucket-good : (b : Bucket) → bucketRanged b ≡ true → goodFrame (bucketFrame b) ≡ true
+-- of a bucket, where question 23 is answered yes too: no sum has more than eight digits
+abbrev bucketWhole : Bucket → Bool
+bucketWhole b = bucketRanged b && leb (b .weight) 67107840
+
+bucket-good : (b : Bucket) → bucketWhole b ≡ true → goodFrame (bucketFrame b) ≡ true
 unfolding layouts fits
 bucket-good b e =
-    let r = bucket-ranged b e in
-    frame-is-good (bucketFrame b) (lit< tt) (and-both (lt-ltb (b .number) (16 ^ 4) (omega (arith, r .number))) (and-both (lt-ltb (b .ty) (16 ^ 2) (omega (arith, r .most))) (and-both (lt-ltb (b .kind) (16 ^ 2) (omega (arith, r .kinds .1))) refl)))
+    let h = both (bucketRanged b) (leb (b .weight) 67107840) e in
+    let r = bucket-ranged b (h .0) in
+    frame-is-good (bucketFrame b) (lit< tt)
+    (and-both (lt-ltb (b .number) (16 ^ 4) (omega (arith, r .number))) (and-both (lt-ltb (b .ty) (16 ^ 2) (omega (arith, r .most)))
+    (and-both (lt-ltb (b .kind) (16 ^ 2) (omega (arith, r .kinds .1))) (and-both (lt-ltb (b .weight) (16 ^ 8) (omega (arith, leb-true (b .weight) 67107840 (h .1)))) refl))))
 
 link-good : (l : Link) → linkRanged l ≡ true → goodFrame (linkFrame l) ≡ true
 unfolding layouts fits
@@ -119,6 +128,14 @@ rows : {A : Type 0} (f : A → Frame) (p : A → Bool) (xs : List A) → ((x : A
     → every p xs ≡ true → every goodFrame (map f xs) ≡ true
 rows f p xs h e = rw (every-map goodFrame f xs) (every-mono p (λ (x : _). goodFrame (f x)) xs h e)
 
+-- two tests that give a third
+every-two : {A : Type 0} (p q r : A → Bool) (xs : List A) → ((x : A) → p x ≡ true → q x ≡ true → r x ≡ true)
+    → every p xs ≡ true → every q xs ≡ true → every r xs ≡ true
+unfolding every
+every-two p q r [] h a b = refl
+every-two p q r (x ∷ xs) h a b =
+    and-both (h x (every-head p x xs a) (every-head q x xs b)) (every-two p q r xs h (every-tail p x xs a) (every-tail q x xs b))
+
 -- ---- a loadable map's text
 
 module _ (m : Map) (L : Loadable m) where
@@ -128,6 +145,13 @@ module _ (m : Map) (L : Loadable m) where
   counted-good : goodFrame (frame 5 (sizeOf m ∷ [])) ≡ true
   unfolding layouts
   counted-good = let b = bounds m L in single 5 (sizeOf m) 4 (lit< tt) refl (omega (arith, b .devices, b .buckets, b .links, b .steps))
+
+  buckets-whole : every bucketWhole (m .buckets) ≡ true
+  unfolding summed
+  buckets-whole =
+      every-two bucketRanged (λ (b : Bucket). eqb (b .weight) (weightOf m (bucketItem (b .number)))) bucketWhole (m .buckets)
+      (λ b r e. and-both r (le-leb (b .weight) 67107840 (omega (arith, eqb-true (b .weight) _ e, weight-most m L (bucketItem (b .number))))))
+      (ranged-is m (L .ranged) .buckets) (L .summed)
 
   -- each field has room
   pub loadable-fits : Fits m ≡ true
@@ -141,7 +165,7 @@ module _ (m : Map) (L : Loadable m) where
       and-both (single 0 (m .groups) 8 (lit< tt) refl (omega (arith, r .most)))
       (rw (every-append goodFrame d (b ++ (l ++ (s ++ tail4))), every-append goodFrame b (l ++ (s ++ tail4)), every-append goodFrame l (s ++ tail4), every-append goodFrame s tail4)
       (and-both (rows deviceFrame deviceRanged (m .devices) device-good (r .devices))
-      (and-both (rows bucketFrame bucketRanged (m .buckets) bucket-good (r .buckets))
+      (and-both (rows bucketFrame bucketWhole (m .buckets) bucket-good buckets-whole)
       (and-both (rows linkFrame linkRanged (m .links) link-good (r .links))
       (and-both (rows stepFrame stepRanged (m .steps) step-good (r .steps)) (and-both counted-good refl))))))
 
@@ -162,7 +186,7 @@ module _ (m : Map) (L : Loadable m) where
       let f = frame 0 (m .groups ∷ []) in
       let n0 = length-line f (single 0 (m .groups) 8 (lit< tt) refl (omega (arith, r .most))) in
       let n1 = section-length 1 deviceFrame deviceRanged (m .devices) (λ x. refl) device-good (r .devices) in
-      let n2 = section-length 2 bucketFrame bucketRanged (m .buckets) (λ x. refl) bucket-good (r .buckets) in
+      let n2 = section-length 2 bucketFrame bucketWhole (m .buckets) (λ x. refl) bucket-good buckets-whole in
       let n3 = section-length 3 linkFrame linkRanged (m .links) (λ x. refl) link-good (r .links) in
       let n4 = section-length 4 stepFrame stepRanged (m .steps) (λ x. refl) step-good (r .steps) in
       let n5 = length-line (frame 5 (sizeOf m ∷ [])) counted-good in

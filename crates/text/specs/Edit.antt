@@ -1,9 +1,9 @@
--- An edit in the text: the digits of one field of one device replaced. The text is then that of the map with that one device replaced, and
--- that map is what the definitions' `put` gives.
+-- An edit in the text: the digits of one field of one record replaced. The text is then that of the map with that one device or bucket
+-- replaced, and these are what the definitions' `put` gives.
 use mathlib.Core.Path.{_≡_, refl, sym, ap, _∙_, subst}
 use mathlib.Core.Bool.{Bool, true, cond, _&&_}
-use mathlib.Core.List.{List, [], _∷_, _++_, map, append-assoc, map-append}
-use Prim.Native.Nat.{ℕ, zero, suc, _+_, _^_, _<_, _≤_}
+use mathlib.Core.List.{List, [], _∷_, _++_, map, append-assoc, map-append, List·Memᴰ}
+use Prim.Native.Nat.{ℕ, zero, suc, _+_, _*_, _^_, _<_, _≤_}
 use native.Mathlib.Omega.{arith}
 use lib.Dec.{ltb, eqb, lit<}
 use lib.ListN.{length, getD, take, drop, set, length-append, length-map, length-set}
@@ -13,24 +13,37 @@ use borrow.Rule.Slice.PartMut.{putMid}
 use Rattle.definitions.specs.declared.Device.{Device}
 use Rattle.definitions.specs.declared.Bucket.{Bucket}
 use Rattle.definitions.specs.declared.Change.the-variants.{Acceptance, Weight}
+use Rattle.text.specs.declared.Shape.{Shape}
 use Rattle.definitions.specs.Lists.{every, linkedFrom, linked, sum}
-use Rattle.definitions.specs.Frames.{hex, bytesOf, Frame, layouts, lineLength, lineOf, textOf}
-use Rattle.definitions.specs.Map.{Map, mapOf}
-use Rattle.definitions.specs.Edit.{withDevices, put}
-use Rattle.definitions.specs.Writing.{frame, deviceFrame, laterFrames, framesOf, mapText}
+use Rattle.definitions.specs.Frames.{hex, bytesOf, Frame, layouts, layout, lineLength, lineOf, framesIn, textOf}
+use Rattle.definitions.specs.Map.{Map, mapOf, bucketItem}
+use Rattle.definitions.specs.View.{weightOf}
+use Rattle.definitions.specs.Edit.{withWeight, withDevices, withSum, withSums, put}
+use Rattle.definitions.specs.Writing.{frame, deviceFrame, bucketFrame, linkFrame, stepFrame, sizeOf, laterFrames, framesOf, mapText}
 use Rattle.definitions.specs.Load.{linkBelow, rising}
 use Rattle.laws.specs.Lists.{both, and-both, every-head, every-tail, every-append, linked-head, linked-tail, linked-rest, every-parts}
+use Rattle.laws.specs.Members.{map-ext}
+use Rattle.laws.specs.Loadable.{sums-leave-weights}
 use Rattle.text.specs.Lines.{plain}
+use Rattle.text.specs.Shape.{shapeOf}
 use Rattle.text.specs.Frames.{goodFrame, length-line, lineBytes}
 use Rattle.text.specs.Places.{splice, with, offset, digitsOf, text-append, write-at, length-text, with-good}
 use Rattle.text.specs.Map.{uniform}
 use Rattle.text.specs.RoundTrip.{Fits, Framed, text-of-map, map-fits, map-of-text, framed}
-use Rattle.text.specs.Rows.{deviceStart, weightAt, acceptanceAt}
-use Rattle.text.specs.Records.{noDevice}
+use Rattle.text.specs.Rows.{deviceStart, weightAt, acceptanceAt, sumAt}
+use Rattle.text.specs.Records.{noDevice, noBucket, countsOf, shape-of-map}
 
 -- device k replaced by d
 unfoldable pub withDevice : ℕ → Device → Map → Map
 withDevice k d m = withDevices m (set (m .devices) k d)
+
+-- other buckets
+abbrev pub withBuckets : Map → List Bucket → Map
+withBuckets m bs = record { groups = m .groups; devices = m .devices; buckets = bs; links = m .links; steps = m .steps }
+
+-- bucket k replaced by b
+unfoldable pub withBucket : ℕ → Bucket → Map → Map
+withBucket k b m = withBuckets m (set (m .buckets) k b)
 
 -- a device with another acceptance
 abbrev pub accepting : Device → ℕ → Device
@@ -40,32 +53,91 @@ accepting d v = record { number = d .number; weight = d .weight; acceptance = v 
 abbrev pub weighing : Device → ℕ → Device
 weighing d v = record { number = d .number; weight = v; acceptance = d .acceptance }
 
--- the frames before device k, and those after it
-unfoldable before : Map → ℕ → List Frame
-before m k = frame 0 (m .groups ∷ []) ∷ map deviceFrame (take k (m .devices))
+-- a bucket with another weight
+abbrev pub bearing : Bucket → ℕ → Bucket
+bearing b v = record { number = b .number; ty = b .ty; kind = b .kind; weight = v }
 
-unfoldable after : Map → ℕ → List Frame
-after m k = map deviceFrame (drop (suc k) (m .devices)) ++ laterFrames m
+-- two maps whose frames are the same but for one, f or f′, whose line starts at p
+record Apart (m m′ : Map) (f f′ : Frame) (p : ℕ) : Type 0 where
+  before : List Frame
+  after : List Frame
+  is : framesOf m ≡ before ++ (f ∷ after)
+  is′ : framesOf m′ ≡ before ++ (f′ ∷ after)
+  starts : length (textOf before) ≡ p
 
--- the frames of a map, at device k; and with device k replaced
-at-device : (m : Map) (k : ℕ) → k < length (m .devices) → framesOf m ≡ before m k ++ (deviceFrame (getD (m .devices) k noDevice) ∷ after m k)
-unfolding before after framesOf
-at-device m k h =
-    let ds = m .devices in
-    ap (λ (l : List Frame). frame 0 (m .groups ∷ []) ∷ (l ++ laterFrames m))
-    (ap (map deviceFrame) (split-at ds k noDevice h) ∙ map-append deviceFrame (take k ds) (getD ds k noDevice ∷ drop (suc k) ds))
-    ∙ ap (λ (l : List Frame). frame 0 (m .groups ∷ []) ∷ l)
-    (append-assoc (map deviceFrame (take k ds)) (deviceFrame (getD ds k noDevice) ∷ map deviceFrame (drop (suc k) ds)) (laterFrames m))
+-- ---- such maps: record k of a section is another
 
-at-with : (m : Map) (k : ℕ) (d : Device) → k < length (m .devices) → framesOf (withDevice k d m) ≡ before m k ++ (deviceFrame d ∷ after m k)
-unfolding before after framesOf withDevice
-at-with m k d h =
-    let ds = m .devices in
-    rw (length-set ds k d)
-    (ap (λ (l : List Frame). frame 0 (m .groups ∷ []) ∷ (l ++ laterFrames m))
-    (ap (map deviceFrame) (set-split ds k d h) ∙ map-append deviceFrame (take k ds) (d ∷ drop (suc k) ds))
-    ∙ ap (λ (l : List Frame). frame 0 (m .groups ∷ []) ∷ l)
-    (append-assoc (map deviceFrame (take k ds)) (deviceFrame d ∷ map deviceFrame (drop (suc k) ds)) (laterFrames m)))
+-- the frames q of records xs, all of kind j, with others before and behind them
+module _ {A : Type 0} (j : ℕ) (q : A → Frame) (kinds : (x : A) → q x .kind ≡ j) (xs : List A) (d : A) (k : ℕ) (h : k < length xs) (pre post : List Frame) where
+  abbrev front : List Frame
+  front = pre ++ map q (take k xs)
+
+  abbrev back : List Frame
+  back = map q (drop (suc k) xs) ++ post
+
+  parted : (ys : List A) (x : A) → ys ≡ take k xs ++ (x ∷ drop (suc k) xs) → pre ++ (map q ys ++ post) ≡ front ++ (q x ∷ back)
+  parted ys x e =
+      ap (λ (l : List Frame). pre ++ (l ++ post)) (ap (map q) e ∙ map-append q (take k xs) (x ∷ drop (suc k) xs))
+      ∙ ap (λ (l : List Frame). pre ++ l) (append-assoc (map q (take k xs)) (q x ∷ map q (drop (suc k) xs)) post)
+      ∙ sym (append-assoc pre (map q (take k xs)) (q x ∷ back))
+
+  front-length : every goodFrame (pre ++ (map q xs ++ post)) ≡ true → length (textOf front) ≡ length (textOf pre) + k * (lineLength j + 1)
+  front-length g =
+      let e = parted xs (getD xs k d) (split-at xs k d h) in
+      let f : every goodFrame front ≡ true = every-parts goodFrame front (q (getD xs k d) ∷ back) (rw e at g) .0 in
+      let n : length (map q (take k xs)) ≡ k = length-map (take k xs) q ∙ length-take-le k xs (omega arith) in
+      ap length (text-append pre (map q (take k xs))) ∙ length-append (textOf pre) (textOf (map q (take k xs)))
+      ∙ ap (λ (c : ℕ). length (textOf pre) + c)
+      (length-text j (map q (take k xs)) (every-parts goodFrame pre (map q (take k xs)) f .1) (uniform j q (take k xs) kinds) ∙ ap (λ (c : ℕ). c * (lineLength j + 1)) n)
+
+  apart : (m m′ : Map) (p : ℕ) (x : A) → Fits m ≡ true → framesOf m ≡ pre ++ (map q xs ++ post) → framesOf m′ ≡ pre ++ (map q (set xs k x) ++ post)
+      → length (textOf pre) ≡ p → Apart m m′ (q (getD xs k d)) (q x) (p + k * (lineLength j + 1))
+  apart m m′ p x g e e′ n =
+      record {
+        before = front;
+        after = back;
+        is = e ∙ parted xs (getD xs k d) (split-at xs k d h);
+        is′ = e′ ∙ parted (set xs k x) x (set-split xs k x h);
+        starts = front-length (rw e at g) ∙ ap (λ (c : ℕ). c + k * (lineLength j + 1)) n;
+      }
+
+module _ (m : Map) (k : ℕ) (g : Fits m ≡ true) where
+  abbrev first : Frame
+  first = frame 0 (m .groups ∷ [])
+
+  first-good : goodFrame first ≡ true
+  unfolding framesOf
+  first-good = every-head goodFrame first (map deviceFrame (m .devices) ++ laterFrames m) g
+
+  first-length : length (textOf (first ∷ [])) ≡ lineBytes 0
+  unfolding bytesOf layouts sum
+  first-length = length-append (lineOf first) (10 ∷ []) ∙ omega (arith, length-line first first-good)
+
+  -- device k
+  device-apart : (d : Device) → k < length (m .devices) → Apart m (withDevice k d m) (deviceFrame (getD (m .devices) k noDevice)) (deviceFrame d) (deviceStart k)
+  unfolding framesOf withDevice layouts sum
+  device-apart d h =
+      apart 1 deviceFrame (λ x. refl) (m .devices) noDevice k h (first ∷ []) (laterFrames m) m (withDevice k d m) (lineBytes 0) d g refl
+      (rw (length-set (m .devices) k d)) first-length
+
+  devices-length : length (textOf (first ∷ map deviceFrame (m .devices))) ≡ deviceStart (length (m .devices))
+  unfolding framesOf bytesOf layouts sum
+  devices-length =
+      let ds = map deviceFrame (m .devices) in
+      let a = length-line first first-good in
+      let b = length-text 1 ds (every-parts goodFrame ds (laterFrames m) (every-tail goodFrame first (ds ++ laterFrames m) g) .0) (uniform 1 deviceFrame (m .devices) (λ x. refl)) in
+      length-append (lineOf first) (10 ∷ textOf ds) ∙ omega (arith, a, b, length-map (m .devices) deviceFrame)
+
+  -- bucket k
+  bucket-apart : (b : Bucket) → k < length (m .buckets)
+      → Apart m (withBucket k b m) (bucketFrame (getD (m .buckets) k noBucket)) (bucketFrame b) (deviceStart (length (m .devices)) + k * lineBytes 2)
+  unfolding framesOf withBucket layouts sum
+  bucket-apart b h =
+      let rest = map linkFrame (m .links) ++ (map stepFrame (m .steps) ++ (frame 5 (sizeOf m ∷ []) ∷ [])) in
+      apart 2 bucketFrame (λ x. refl) (m .buckets) noBucket k h (first ∷ map deviceFrame (m .devices)) rest m (withBucket k b m) (deviceStart (length (m .devices))) b g refl
+      (rw (length-set (m .buckets) k b)) devices-length
+
+-- ---- one field of that frame is another
 
 -- good frames, in parts
 parts-good : (xs ys : List Frame) (f : Frame) → every goodFrame (xs ++ (f ∷ ys)) ≡ true
@@ -78,83 +150,81 @@ good-parts : (xs ys : List Frame) (f : Frame) → every goodFrame xs ≡ true �
 unfolding every
 good-parts xs ys f a b c = rw (every-append goodFrame xs (f ∷ ys)) (and-both a (and-both b c))
 
-module _ (m : Map) (k : ℕ) (g : Fits m ≡ true) (h : k < length (m .devices)) where
-  parts : (every goodFrame (before m k) ≡ true) × (goodFrame (deviceFrame (getD (m .devices) k noDevice)) ≡ true) × (every goodFrame (after m k) ≡ true)
-  parts = parts-good (before m k) (after m k) (deviceFrame (getD (m .devices) k noDevice)) (rw (at-device m k h) at g)
-
-  -- where device k's line starts
-  start : length (textOf (before m k)) ≡ deviceStart k
-  unfolding before bytesOf layouts sum
-  start =
-      let ds = map deviceFrame (take k (m .devices)) in
-      let f = frame 0 (m .groups ∷ []) in
-      let n : length ds ≡ k = length-map (take k (m .devices)) deviceFrame ∙ length-take-le k (m .devices) (omega arith) in
-      let a = length-line f (every-head goodFrame f ds (parts .0)) in
-      let b = length-text 1 ds (every-tail goodFrame f ds (parts .0)) (uniform 1 deviceFrame (take k (m .devices)) (λ x. refl)) in
-      length-append (lineOf f) (10 ∷ textOf ds) ∙ omega (arith, a, b, n)
-
-  -- field i of device k replaced in the text: the device is then d
-  with-text : (i v : ℕ) (d : Device) → i < 3 → with (deviceFrame (getD (m .devices) k noDevice)) i v ≡ deviceFrame d
-      → splice (deviceStart k + offset 1 i) (digitsOf 1 i) (hex (digitsOf 1 i) v) (mapText m) ≡ mapText (withDevice k d m)
-  unfolding layouts
-  with-text i v d l e =
-      rw (at-device m k h, at-with m k d h, ← e)
-      (write-at (before m k) (after m k) (deviceFrame (getD (m .devices) k noDevice)) i (deviceStart k) v (parts .1) l start)
-
-  with-fits : (i v : ℕ) (d : Device) → v < 16 ^ digitsOf 1 i → with (deviceFrame (getD (m .devices) k noDevice)) i v ≡ deviceFrame d → Fits (withDevice k d m) ≡ true
-  with-fits i v d l e =
-      rw (at-with m k d h, ← e)
-      (good-parts (before m k) (after m k) _ (parts .0) (with-good (deviceFrame (getD (m .devices) k noDevice)) i v (parts .1) l) (parts .2))
-
-  length-at : (f : Frame) → goodFrame f ≡ true → f .kind ≡ 1 → length (textOf (before m k ++ (f ∷ after m k))) ≡ deviceStart k + (lineBytes 1 + length (textOf (after m k)))
-  unfolding bytesOf layouts sum
-  length-at f p q =
-      let a : length (lineOf f) ≡ lineLength 1 = length-line f p ∙ ap (λ (i : ℕ). lineLength i) q in
-      ap length (text-append (before m k) (f ∷ after m k)) ∙ length-append (textOf (before m k)) (textOf (f ∷ after m k))
-      ∙ rw (start, length-append (lineOf f) (10 ∷ textOf (after m k))) (omega (arith, a))
-
-  with-length : (i v : ℕ) (d : Device) → v < 16 ^ digitsOf 1 i → with (deviceFrame (getD (m .devices) k noDevice)) i v ≡ deviceFrame d
-      → length (mapText (withDevice k d m)) ≡ length (mapText m)
-  unfolding with
-  with-length i v d l e =
-      rw (at-device m k h, at-with m k d h)
-      (length-at (deviceFrame d) (rw (← e) (with-good (deviceFrame (getD (m .devices) k noDevice)) i v (parts .1) l)) refl
-      ∙ sym (length-at (deviceFrame (getD (m .devices) k noDevice)) (parts .1) refl))
-
 -- u is the text of the map m, and m the map of u
 pub record Edited (u : List ℕ) (m : Map) : Type 0 where
   pub text : u ≡ mapText m
   pub holds : mapOf u ≡ m
   pub framed : Framed u
 
-module _ (t : List ℕ) (k : ℕ) (h : Framed t) (l : k < length (mapOf t .devices)) where
-  -- the digits of field i of device k replaced
-  pub edited : (i v : ℕ) (d : Device) → i < 3 → v < 16 ^ digitsOf 1 i → with (deviceFrame (getD (mapOf t .devices) k noDevice)) i v ≡ deviceFrame d
-      → Edited (splice (deviceStart k + offset 1 i) (digitsOf 1 i) (hex (digitsOf 1 i) v) t) (withDevice k d (mapOf t))
-  edited i v d a s e =
-      let m = mapOf t in
-      let g = with-fits m k (map-fits t h) l i v d s e in
-      let b : splice (deviceStart k + offset 1 i) (digitsOf 1 i) (hex (digitsOf 1 i) v) t ≡ mapText (withDevice k d m) =
-      subst (λ (u : List ℕ). splice (deviceStart k + offset 1 i) (digitsOf 1 i) (hex (digitsOf 1 i) v) u ≡ mapText (withDevice k d m)) (text-of-map t h)
-      (with-text m k (map-fits t h) l i v d a e) in
-      rw b
-      (record {
-        text = refl;
-        holds = map-of-text (withDevice k d m) g;
-        framed = framed (withDevice k d m) g (omega (arith, with-length m k (map-fits t h) l i v d s e, ap length (text-of-map t h), plain t (h .sized) .most));
-      })
+-- a text is that of its map
+pub unedited : (t : List ℕ) → Framed t → Edited t (mapOf t)
+unedited t h = record { text = sym (text-of-map t h); holds = refl; framed = h }
 
-  -- field 2, the acceptance
-  pub edited-acceptance : (v : ℕ) → v < 16 ^ 8
+-- a text of a map with the same counts has the shape that the text had
+pub edited-shape : (t u : List ℕ) (s : Shape) (m : Map) → Framed t → s ≡ shapeOf (framesIn t) → Edited u m → countsOf m ≡ countsOf (mapOf t) → s ≡ shapeOf (framesIn u)
+edited-shape t u s m h e E q = e ∙ shape-of-map t h ∙ sym q ∙ sym (ap countsOf (E .holds)) ∙ sym (shape-of-map u (E .framed))
+
+module _ {m m′ : Map} {f f′ : Frame} {p : ℕ} (A : Apart m m′ f f′ p) (i v : ℕ) (g : Fits m ≡ true) (l : i < length (layout (f .kind))) (s : v < 16 ^ digitsOf (f .kind) i)
+    (e : with f i v ≡ f′) where
+  parts : (every goodFrame (A .before) ≡ true) × (goodFrame f ≡ true) × (every goodFrame (A .after) ≡ true)
+  parts = parts-good (A .before) (A .after) f (rw (A .is) at g)
+
+  good′ : goodFrame f′ ≡ true
+  good′ = rw (← e) (with-good f i v (parts .1) s)
+
+  with-text : splice (p + offset (f .kind) i) (digitsOf (f .kind) i) (hex (digitsOf (f .kind) i) v) (mapText m) ≡ mapText m′
+  with-text = rw (A .is, A .is′, ← e) (write-at (A .before) (A .after) f i p v (parts .1) l (A .starts))
+
+  with-fits : Fits m′ ≡ true
+  with-fits = rw (A .is′) (good-parts (A .before) (A .after) f′ (parts .0) good′ (parts .2))
+
+  -- the two lines are equally long
+  with-length : length (mapText m′) ≡ length (mapText m)
+  unfolding with bytesOf
+  with-length = rw (A .is, A .is′) (length-at f′ good′ ∙ rw kind-stays (sym (length-at f (parts .1))))
+    where
+      kind-stays : f′ .kind ≡ f .kind
+      kind-stays = ap (λ (x : Frame). x .kind) (sym e)
+
+      length-at : (x : Frame) → goodFrame x ≡ true → length (textOf (A .before ++ (x ∷ A .after))) ≡ p + (lineLength (x .kind) + 1 + length (textOf (A .after)))
+      length-at x q =
+          ap length (text-append (A .before) (x ∷ A .after)) ∙ length-append (textOf (A .before)) (textOf (x ∷ A .after))
+          ∙ rw (A .starts, length-append (lineOf x) (10 ∷ textOf (A .after))) (omega (arith, length-line x q))
+
+-- the digits of that field replaced in a text
+edited : (t : List ℕ) (h : Framed t) {m′ : Map} {f f′ : Frame} {p : ℕ} → Apart (mapOf t) m′ f f′ p → (i v : ℕ) → i < length (layout (f .kind)) → v < 16 ^ digitsOf (f .kind) i
+    → with f i v ≡ f′ → Edited (splice (p + offset (f .kind) i) (digitsOf (f .kind) i) (hex (digitsOf (f .kind) i) v) t) m′
+edited t h {m′} {f} {f′} {p} A i v l s e =
+    let m = mapOf t in
+    let g = map-fits t h in
+    let b : splice (p + offset (f .kind) i) (digitsOf (f .kind) i) (hex (digitsOf (f .kind) i) v) t ≡ mapText m′ =
+    subst (λ (u : List ℕ). splice (p + offset (f .kind) i) (digitsOf (f .kind) i) (hex (digitsOf (f .kind) i) v) u ≡ mapText m′) (text-of-map t h) (with-text A i v g l s e) in
+    let g′ = with-fits A i v g l s e in
+    rw b
+    (record {
+      text = refl;
+      holds = map-of-text m′ g′;
+      framed = framed m′ g′ (omega (arith, with-length A i v g l s e, ap length (text-of-map t h), plain t (h .sized) .most));
+    })
+
+module _ (t : List ℕ) (k : ℕ) (h : Framed t) where
+  -- the acceptance of device k, its field 2
+  pub edited-acceptance : k < length (mapOf t .devices) → (v : ℕ) → v < 16 ^ 8
       → Edited (splice (deviceStart k + acceptanceAt) 8 (hex 8 v) t) (withDevice k (accepting (getD (mapOf t .devices) k noDevice) v) (mapOf t))
   unfolding with layouts sum
-  edited-acceptance v s = edited 2 v (accepting (getD (mapOf t .devices) k noDevice) v) (lit< tt) s refl
+  edited-acceptance l v s = edited t h (device-apart (mapOf t) k (map-fits t h) (accepting (getD (mapOf t .devices) k noDevice) v) l) 2 v (lit< tt) s refl
 
-  -- field 1, the weight
-  pub edited-weight : (v : ℕ) → v < 16 ^ 8
+  -- its weight, field 1
+  pub edited-weight : k < length (mapOf t .devices) → (v : ℕ) → v < 16 ^ 8
       → Edited (splice (deviceStart k + weightAt) 8 (hex 8 v) t) (withDevice k (weighing (getD (mapOf t .devices) k noDevice) v) (mapOf t))
   unfolding with layouts sum
-  edited-weight v s = edited 1 v (weighing (getD (mapOf t .devices) k noDevice) v) (lit< tt) s refl
+  edited-weight l v s = edited t h (device-apart (mapOf t) k (map-fits t h) (weighing (getD (mapOf t .devices) k noDevice) v) l) 1 v (lit< tt) s refl
+
+  -- the weight of bucket k, its field 3
+  pub edited-sum : k < length (mapOf t .buckets) → (v : ℕ) → v < 16 ^ 8
+      → Edited (splice (deviceStart (length (mapOf t .devices)) + k * lineBytes 2 + sumAt) 8 (hex 8 v) t) (withBucket k (bearing (getD (mapOf t .buckets) k noBucket) v) (mapOf t))
+  unfolding with layouts sum
+  edited-sum l v s = edited t h (bucket-apart (mapOf t) k (map-fits t h) (bearing (getD (mapOf t .buckets) k noBucket) v) l) 3 v (lit< tt) s refl
 
 -- ---- devices by number
 
@@ -199,6 +269,13 @@ module _ (d : ℕ) (g : Device → Device) where
       let l = first-below x xs k e (omega arith) in
       rw (ne-eqb (x .number) d (λ p. omega (arith, p, n, l)), one-changes xs k (linked-rest deviceBelow x xs e) (omega arith) n)
 
+-- a bucket with the weight that a list has of its number, and each bucket so
+abbrev pub borneBy : List ℕ → Bucket → Bucket
+borneBy ws b = bearing b (getD ws (b .number) 0)
+
+unfoldable pub bearingAll : List ℕ → Map → Map
+bearingAll ws m = withBuckets m (map (borneBy ws) (m .buckets))
+
 -- device k replaced is the definitions' edit of the device with that number
 module _ (m : Map) (k d v : ℕ) (r : rising m ≡ true) (l : k < length (m .devices)) (n : getD (m .devices) k noDevice .number ≡ d) where
   -- an acceptance
@@ -206,10 +283,16 @@ module _ (m : Map) (k d v : ℕ) (r : rising m ≡ true) (l : k < length (m .dev
   unfolding withDevice put
   put-acceptance = rw (one-changes d (λ (e : Device). accepting e v) (m .devices) k (rising-devices m r) l n)
 
-  -- a weight
-  pub put-weight : withDevice k (weighing (getD (m .devices) k noDevice) v) m ≡ put m (Weight d v)
-  unfolding withDevice put
-  put-weight = rw (one-changes d (λ (e : Device). weighing e v) (m .devices) k (rising-devices m r) l n)
+  -- a weight, with the sums of all buckets written: the list has them
+  pub put-weight : (ws : List ℕ) → ((b : Bucket) → List·Memᴰ b (m .buckets) → getD ws (b .number) 0 ≡ weightOf (put m (Weight d v)) (bucketItem (b .number)))
+      → bearingAll ws (withDevice k (weighing (getD (m .devices) k noDevice) v) m) ≡ put m (Weight d v)
+  unfolding bearingAll withDevice put withSums
+  put-weight ws w =
+      let n′ = withDevices m (map (withWeight d v) (m .devices)) in
+      rw (one-changes d (λ (e : Device). weighing e v) (m .devices) k (rising-devices m r) l n)
+      (ap (withBuckets n′)
+      (map-ext (borneBy ws) (withSum n′) (m .buckets)
+      (λ b q. ap (bearing b) (w b q ∙ sums-leave-weights n′ (bucketItem (b .number))))))
 
 -- what a part that comes back makes of the whole
 pub put-splice : (a k n v : ℕ) (xs ys : List ℕ) → k ≡ 8 → n ≡ 8 → ys ≡ hex n v → putMid a k xs ys ≡ splice a 8 (hex 8 v) xs

@@ -5,7 +5,7 @@ use mathlib.Core.List.{List, _++_}
 use Prim.Native.Nat.{ℕ}
 use Rattle.definitions.specs.Lists.{every, firstNo}
 use Rattle.definitions.specs.Map.{mapOf}
-use Rattle.definitions.specs.Load.{ranged, rising, present, once, falling, filled, narrow, inBlocks, typed, slim, light, textQuestions, mapQuestions, loadNumber}
+use Rattle.definitions.specs.Load.{ranged, rising, present, once, falling, filled, narrow, inBlocks, typed, slim, summed, light, textQuestions, mapQuestions, loadNumber}
 use Rattle.laws.specs.Questions.{answerTo, answered}
 use Rattle.text.specs.RoundTrip.{Framed}
 
@@ -27,6 +27,7 @@ pub record Loaded (t : List ℕ) : Type 0 where
   pub inBlocks : inBlocks (mapOf t) ≡ true
   pub typed : typed (mapOf t) ≡ true
   pub slim : slim (mapOf t) ≡ true
+  pub summed : summed (mapOf t) ≡ true
   pub light : light (mapOf t) ≡ true
 
 -- a text of number 0 has each answer yes
@@ -46,5 +47,6 @@ loaded t e =
       inBlocks = y 11;
       typed = y 21;
       slim = y 12;
+      summed = y 23;
       light = y 13;
     }

@@ -116,7 +116,7 @@ frames-map fs g q n =
     let size : firstField 5 fs ≡ sizeOf (mapIn fs) = simp length-map (omega (arith, e, counts fs g o)) in
     rw (
       back fs g 1 deviceIn deviceFrame (λ f h i. same-frame f 1 _ i (three (f .fields) (fields f 1 h i))),
-      back fs g 2 bucketIn bucketFrame (λ f h i. same-frame f 2 _ i (three (f .fields) (fields f 2 h i))),
+      back fs g 2 bucketIn bucketFrame (λ f h i. same-frame f 2 _ i (four (f .fields) (fields f 2 h i))),
       back fs g 3 linkIn linkFrame (λ f h i. same-frame f 3 _ i (two (f .fields) (fields f 3 h i))),
       back fs g 4 stepIn stepFrame (λ f h i. same-frame f 4 _ i (four (f .fields) (fields f 4 h i))),
       single fs g 5 (sizeOf (mapIn fs)) refl (o .one-last) size,

@@ -12,12 +12,12 @@ use Rattle.definitions.specs.declared.Step.{Step}
 use Rattle.text.specs.declared.Shape.{Shape}
 use Rattle.definitions.specs.Lists.{sum}
 use Rattle.definitions.specs.Frames.{value, Frame, layouts, layout, lineLength, framesIn, section, field, noFrame}
-use Rattle.definitions.specs.Map.{deviceIn, bucketIn, linkIn, stepIn, mapIn, mapOf}
+use Rattle.definitions.specs.Map.{Map, deviceIn, bucketIn, linkIn, stepIn, mapIn, mapOf}
 use Rattle.text.specs.Frames.{good-frames, lineBytes}
 use Rattle.text.specs.Shape.{shapeOf}
 use Rattle.text.specs.Places.{offset, digitsOf}
 use Rattle.text.specs.Map.{Ordered, in-order}
-use Rattle.text.specs.Rows.{base, row, row-field, row-room, deviceStart, weightAt, acceptanceAt, bucketsStart, linksStart, stepsStart, base-devices, base-buckets, base-links, base-steps}
+use Rattle.text.specs.Rows.{base, row, row-field, row-room, deviceStart, weightAt, acceptanceAt, sumAt, bucketsStart, linksStart, stepsStart, base-devices, base-buckets, base-links, base-steps}
 use Rattle.text.specs.RoundTrip.{Framed, text-of-frames}
 
 -- no device
@@ -26,7 +26,7 @@ noDevice = record { number = 0; weight = 0; acceptance = 0 }
 
 -- no bucket
 abbrev pub noBucket : Bucket
-noBucket = record { number = 0; ty = 0; kind = 0 }
+noBucket = record { number = 0; ty = 0; kind = 0; weight = 0 }
 
 -- no link
 abbrev pub noLink : Link
@@ -53,6 +53,7 @@ pub record BucketAt (t : List ℕ) (p : ℕ) (b : Bucket) : Type 0 where
   pub number : value 4 (drop (p + 2) t) ≡ b .number
   pub ty : value 2 (drop (p + 6) t) ≡ b .ty
   pub kind : value 2 (drop (p + 8) t) ≡ b .kind
+  pub weight : value 8 (drop (p + sumAt) t) ≡ b .weight
   pub room : p + lineBytes 2 ≤ length t
 
 -- the line of link l starts at p
@@ -112,7 +113,7 @@ module _ (t : List ℕ) (h : Framed t) where
     unfolding mapIn layouts sum
     bucket-at k l =
         record-at 2 (bucketsStart s) k bucketIn (BucketAt t (bucketsStart s + k * lineBytes 2)) (lit< tt) (base-buckets (framesIn t) s e in-order-of) l
-        (λ f r. record { number = r .read 0 (lit< tt); ty = r .read 1 (lit< tt); kind = r .read 2 (lit< tt); room = r .room })
+        (λ f r. record { number = r .read 0 (lit< tt); ty = r .read 1 (lit< tt); kind = r .read 2 (lit< tt); weight = r .read 3 (lit< tt); room = r .room })
 
     -- link k
     pub link-at : (k : ℕ) → k < length (mapOf t .links)
@@ -151,3 +152,15 @@ module _ (t : List ℕ) (s : Shape) (e : s ≡ shapeOf (framesIn t)) where
   pub shape-steps : s .steps ≡ length (mapOf t .steps)
   unfolding shapeOf mapIn
   shape-steps = rw e (sym (length-map (section 4 (framesIn t)) stepIn))
+
+-- the shape by the map alone
+unfoldable pub countsOf : Map → Shape
+countsOf m =
+    record { groups = 1; devices = length (m .devices); buckets = length (m .buckets); links = length (m .links); steps = length (m .steps); ends = 1 }
+
+pub shape-of-map : (t : List ℕ) → Framed t → shapeOf (framesIn t) ≡ countsOf (mapOf t)
+unfolding shapeOf countsOf
+shape-of-map t h =
+    let s = shapeOf (framesIn t) in
+    let o = in-order (framesIn t) (h .ordered) in
+    rw (o .one-first, o .one-last, shape-devices t s refl, shape-buckets t s refl, shape-links t s refl, shape-steps t s refl)

@@ -112,6 +112,10 @@ weightAt = 6
 abbrev pub acceptanceAt : ℕ
 acceptanceAt = 14
 
+-- where a bucket's weight stands in its line
+abbrev pub sumAt : ℕ
+sumAt = 10
+
 -- where the buckets start, by a shape
 abbrev pub bucketsStart : Shape → ℕ
 bucketsStart s = deviceStart (s .devices)

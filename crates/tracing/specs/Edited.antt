@@ -29,8 +29,8 @@ use Rattle.definitions.specs.Calls.{independent, fits}
 use Rattle.laws.specs.Lists.{both}
 use Rattle.laws.specs.Members.{at-mem, map-ext}
 use Rattle.laws.specs.Tree.{Fork, tree-law}
-use Rattle.laws.specs.Loadable.{Loadable, put-type, put-bucket-kind, put-children, put-actions, put-acceptance, weight-leaves-acceptance}
-use Rattle.laws.specs.Forest.{Holds, Raises, kidsOf, put-raises, put-lowers, put-weights, acceptance-leaves-weights, child-heavier, draw-child}
+use Rattle.laws.specs.Loadable.{Loadable, put-type, put-bucket-kind, put-children, put-actions, put-acceptance, weight-leaves-acceptance, acceptance-leaves-weights}
+use Rattle.laws.specs.Forest.{Holds, Raises, kidsOf, put-raises, put-lowers, put-weights, child-heavier, draw-child}
 use Rattle.tracing.specs.Runs.{stepAt, workingAt, steps-same, count-same}
 
 -- the edited device, and the child of bucket b that is or holds it, told by its place

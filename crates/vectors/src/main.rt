@@ -276,7 +276,7 @@ fn size(groups: u32, w: usize) -> usize
     wide(groups) * w
 }
 
-// All that the engine answers to a map and its edits. The edited table is what filling the edited map gives.
+// All that the engine answers to a map and its edits. The edited map loads, and the edited table is what filling it gives.
 fn answers_agree(map: &mut [u8], given: &[u8], groups: u32, w: usize, want: &[u8]) -> usize {
     let number = engine::load::load(map);
     if number != 0 {
@@ -299,6 +299,9 @@ fn answers_agree(map: &mut [u8], given: &[u8], groups: u32, w: usize, want: &[u8
     }
     let rows = table_agrees(map, &table, groups, w, want);
     let edited = edits_agree(map, &mut table, given, want, rows);
+    if engine::load::load(map) != 0 {
+        return LOST;
+    }
     if !is_fresh(map, &table) {
         return LOST;
     }

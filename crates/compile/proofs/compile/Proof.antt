@@ -31,12 +31,12 @@ weigh-requires : tie.Need-weigh-requires
 weigh-requires c κs = (reads-new (c .before .before .before), c .before .plan-of .ensures)
 
 rule-of-requires : tie.Need-rule-of-requires
-rule-of-requires c κs = reads-old (c .before .before .before .before)
+rule-of-requires c κs = reads-old (c .before .before .before .before .before)
 
 returns : tie.Need-returns
 returns c =
-    let v = c .before .weigh .ensures in
-    (v .0, (v .1, c .rule-of .ensures))
+    let v = c .before .before .weigh .ensures in
+    (v .0, (v .1 .1, c .rule-of .ensures))
 
 pub compile-spec : {M : Type 1} → statement M
 compile-spec =

@@ -11,17 +11,18 @@ weigh-children-requires c κs = search needs
 
 words-of-requires : tie.Need-words-of-requires
 words-of-requires c κs =
-    let w = c .before .pre .1 in
-    parts-are (c .before .pre .0) (w .loadable) (w .planned) (c .weigh-children .result) (c .weigh-children .ensures (c .before .pre .0) w)
+    let p = c .before .pre in
+    let w = p .1 in
+    parts-are (p .0) (w .loadable) (w .planned) (c .weigh-children .result) (c .weigh-children .ensures (p .0) w (p .2))
 
 values-of-requires : tie.Need-values-of-requires
 values-of-requires c κs = search needs
 
 returns : tie.Need-returns
-returns c m w a =
+returns c m w l a =
     let o = c .values-of .ensures in
     let s = c .before .before in
-    view-is m (w .loadable) (w .planned) _ (rw (o .0) a) (λ b. rw (o .1) (s .words-of .ensures b ∙ rw (s .before .weigh-children .ensures m w b)))
+    view-is m (w .loadable) (w .planned) _ (rw (o .0) a) (λ b. rw (o .1) (s .words-of .ensures b ∙ rw (s .before .weigh-children .ensures m w l b)))
 
 pub values-of-spec : {M : Type 1} → statement M
 values-of-spec = tie.close (tie.spec weigh-children-requires words-of-requires values-of-requires returns)

@@ -23,14 +23,28 @@ weighs c =
       owned = c .devices-of .ensures .0;
     }
 
+bucket-weights-requires : tie.Need-bucket-weights-requires
+bucket-weights-requires c κs = (_, weighs (c .before .before .before))
+
 values-of-requires : tie.Need-values-of-requires
-values-of-requires c κs = (_, weighs (c .before .before .before .before))
+values-of-requires c κs =
+    let l = c .before .before .before in
+    let w = weighs (l .before .before .before .before) in
+    (_, w, l .bucket-weights .ensures _ w)
 
 returns : tie.Need-returns
 returns c =
-    let d = c .before .before .before .before .before in
+    let l = c .before .before .before .before in
+    let d = l .before .before .before .before in
     let w = weighs d in
-    (c .values-of .ensures _ w (d .devices-of .ensures .1), sound-is _ (w .loadable) (w .planned))
+    let b = l .bucket-weights .ensures _ w in
+    (c .values-of .ensures _ w b (d .devices-of .ensures .1), (b, sound-is _ (w .loadable) (w .planned)))
 
 pub weigh-spec : {M : Type 1} → statement M
-weigh-spec = tie.close (tie.spec devices-of-requires values-of-requires returns)
+weigh-spec =
+    tie.close
+    (tie.spec
+    devices-of-requires
+    bucket-weights-requires
+    values-of-requires
+    returns)

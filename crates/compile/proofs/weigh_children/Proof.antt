@@ -9,12 +9,6 @@ use Rattle.compile.specs.Compiled.{weights-are}
 use Rattle.compile.proofs.weigh_children.Statement.{statement}
 use Rattle.compile.proofs.weigh_children.Tie as tie
 
-bucket-weights-requires : tie.Need-bucket-weights-requires
-bucket-weights-requires c κs = search needs
-
-slice-aggregate-weights-of : tie.Need-slice-aggregate-weights-of
-slice-aggregate-weights-of c = search needs
-
 sub-weights-of : tie.Need-sub-weights-of
 sub-weights-of c = search needs
 
@@ -27,22 +21,18 @@ part-weights-of-end c = search needs
 weights-of-requires : tie.Need-weights-of-requires
 unfolding section
 weights-of-requires c κs =
-    let s = c .before .before .before .before .before in
+    let s = c .before .before .before .before in
     let n : length (s .args .plan .now) ≡ 2305 = search needs in
     (search needs, search needs, section-length childrenAt 1280 (s .args .plan .now) (omega (arith, n)), s .pre .1 .planned .arranged .ranged)
 
 returns : tie.Need-returns
 unfolding section
-returns c m w b =
-    let l = c .before .before .before .before .before in
-    rw (c .weights-of .ensures) (weights-are m (w .loadable) (w .planned) (w .owned) (l .bucket-weights .ensures m w) b)
+returns c m w l b = rw (c .weights-of .ensures) (weights-are m (w .loadable) (w .planned) (w .owned) l b)
 
 pub weigh-children-spec : {M : Type 1} → statement M
 weigh-children-spec =
     tie.close
     (tie.spec
-    bucket-weights-requires
-    slice-aggregate-weights-of
     sub-weights-of
     part-weights-of-start
     part-weights-of-end

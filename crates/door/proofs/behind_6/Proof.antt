@@ -14,9 +14,9 @@ present-requires c κs = search needs
 
 returns : tie.Need-returns
 unfolding mapQuestions behind
-returns c = refused (all-left 6 (mapOf (c .before .before .before .before .args .t .now))) refl (c .before .present .ensures) (c .if1 .taken)
+returns c = refused (all-left 6 (mapOf (c .before .before .before .before .before .args .t .now))) refl (c .before .present .ensures) (c .if1 .taken)
 
-left7 : (c : tie.Else1) → Left 6 7 (mapOf (c .before .before .before .before .args .t .now))
+left7 : (c : tie.Else1) → Left 6 7 (mapOf (c .before .before .before .before .before .args .t .now))
 unfolding mapQuestions behind
 left7 c = passed (all-left 6 _) refl (c .before .present .ensures) (c .if1 .left)
 
@@ -27,7 +27,7 @@ returns-2 : tie.Need-returns-2
 unfolding mapQuestions behind
 returns-2 c = refused (left7 (c .before .before)) refl (c .before .once .ensures) (c .if2 .taken)
 
-left8 : (c : tie.Else2) → Left 6 8 (mapOf (c .before .before .before .before .before .before .args .t .now))
+left8 : (c : tie.Else2) → Left 6 8 (mapOf (c .before .before .before .before .before .before .before .args .t .now))
 unfolding mapQuestions behind
 left8 c = passed (left7 (c .before .before)) refl (c .before .once .ensures) (c .if2 .left)
 
@@ -40,46 +40,62 @@ returns-3 : tie.Need-returns-3
 unfolding mapQuestions behind
 returns-3 c = refused (left8 (c .before .before)) refl (c .before .falling .ensures) (c .if3 .taken)
 
-left9 : (c : tie.Else3) → Left 6 9 (mapOf (c .before .before .before .before .before .before .before .before .args .t .now))
+left9 : (c : tie.Else3) → Left 6 9 (mapOf (c .before .before .before .before .before .before .before .before .before .args .t .now))
 unfolding mapQuestions behind
 left9 c = passed (left8 (c .before .before)) refl (c .before .falling .ensures) (c .if3 .left)
 
-counts-requires : tie.Need-counts-requires
-counts-requires c κs = search needs
+-- what the function was lent
+abbrev start : tie.Else3 → tie.Start
+start c = c .before .before .before .before .before .before .before .before .before
 
-slice-aggregate-every-bucket : tie.Need-slice-aggregate-every-bucket
-slice-aggregate-every-bucket c = search needs
+totals-of-requires : tie.Need-totals-of-requires
+totals-of-requires c κs = let p = start c .pre in ((p .0 .0, p .0 .1, p .0 .2), p .1 .1)
 
 every-bucket-requires : tie.Need-every-bucket-requires
-every-bucket-requires c κs = search needs
+every-bucket-requires c κs =
+    let t = c .before .before .before in
+    let p = start (t .before) .pre in
+    ((p .0 .0, p .0 .1, p .0 .2), t .totals-of .ensures .0)
+
+-- where question 9 was answered yes
+abbrev nine : tie.Else4 → tie.Else3
+nine c = c .before .before .before .before .before .before
 
 returns-4 : tie.Need-returns-4
 unfolding mapQuestions behind asks
-returns-4 c = refused (left9 (c .before .before .before .before)) refl (c .before .every-bucket .ensures) (c .if4 .taken)
+returns-4 c = refused (left9 (c .before .before .before .before .before .before)) refl (c .before .every-bucket .ensures) (c .if4 .taken)
 
-left22 : (c : tie.Else4) → Left 6 22 (mapOf (c .before .before .before .before .before .before .before .before .before .before .before .before .args .t .now))
+left22 : (c : tie.Else4) → Left 6 22 (mapOf (start (nine c) .args .t .now))
 unfolding mapQuestions behind asks
-left22 c = passed (left9 (c .before .before .before .before)) refl (c .before .every-bucket .ensures) (c .if4 .left)
-
-slice-aggregate-every-bucket-2 : tie.Need-slice-aggregate-every-bucket-2
-slice-aggregate-every-bucket-2 c = search needs
+left22 c = passed (left9 (nine c)) refl (c .before .every-bucket .ensures) (c .if4 .left)
 
 every-bucket-requires-2 : tie.Need-every-bucket-requires-2
-every-bucket-requires-2 c κs = search needs
+every-bucket-requires-2 c κs =
+    let e3 = nine (c .before .before .before) in
+    let p = start e3 .pre in
+    ((p .0 .0, p .0 .1, p .0 .2), c .before .before .before .before .before .before .before .before .totals-of .ensures .0)
 
 returns-5 : tie.Need-returns-5
 unfolding mapQuestions behind asks
-returns-5 c = refused (left22 (c .before .before .before)) refl (c .before .every-bucket2 .ensures) (c .if5 .taken)
+returns-5 c = refused (left22 (c .before .before .before .before .before)) refl (c .before .every-bucket2 .ensures) (c .if5 .taken)
 
-left10 : (c : tie.Else5) → Left 6 10 (mapOf (c .before .before .before .before .before .before .before .before .before .before .before .before .before .before .before .args .t .now))
+left10 : (c : tie.Else5) → Left 6 10 (mapOf (start (nine (c .before .before .before .before .before)) .args .t .now))
 unfolding mapQuestions behind asks
-left10 c = passed (left22 (c .before .before .before)) refl (c .before .every-bucket2 .ensures) (c .if5 .left)
+left10 c = passed (left22 (c .before .before .before .before .before)) refl (c .before .every-bucket2 .ensures) (c .if5 .left)
 
 behind-10-requires : tie.Need-behind-10-requires
-behind-10-requires c κs = search needs
+behind-10-requires c κs =
+    let e4 = c .before .before .before .before .before .before .before .before in
+    let t = e4 .before .before .before .before .before in
+    let e3 = nine e4 in
+    let e1 = e3 .before .before .before .before in
+    let p = start e3 .pre in (
+      (p .0 .0, p .0 .1, p .0 .2),
+      ((p .0 .3, yes (e1 .before .present .ensures) (e1 .if1 .left), yes (e3 .before .falling .ensures) (e3 .if3 .left)), (p .1 .0, t .totals-of .ensures .1)),
+    )
 
 returns-6 : tie.Need-returns-6
-returns-6 c = c .behind-10 .ensures ∙ sym (left10 (c .before) .is)
+returns-6 c = c .behind-10 .ensures ∙ sym (left10 (c .before .before .before .before) .is)
 
 pub behind-6-spec : {M : Type 1} → statement M
 behind-6-spec =
@@ -91,11 +107,9 @@ behind-6-spec =
     returns-2
     falling-requires
     returns-3
-    counts-requires
-    slice-aggregate-every-bucket
+    totals-of-requires
     every-bucket-requires
     returns-4
-    slice-aggregate-every-bucket-2
     every-bucket-requires-2
     returns-5
     behind-10-requires

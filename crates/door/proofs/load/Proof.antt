@@ -76,23 +76,22 @@ returns-6 c =
     let e5 = c .before .before in
     sym (behind-text _ (framed (e5 .before .before)) ∙ simp (yes (e5 .before .ranged .ensures) (e5 .if5 .left), no (c .before .rising .ensures) (c .if6 .taken)))
 
-levels-requires : tie.Need-levels-requires
-levels-requires c κs =
+items-of-requires : tie.Need-items-of-requires
+items-of-requires c κs =
     let e5 = c .before .before in
     (framed (e5 .before .before), search needs, yes (e5 .before .ranged .ensures) (e5 .if5 .left), yes (c .before .rising .ensures) (c .if6 .left))
 
-slice-aggregate-behind-6 : tie.Need-slice-aggregate-behind-6
-slice-aggregate-behind-6 c = search needs
-
 behind-6-requires : tie.Need-behind-6-requires
 behind-6-requires c κs =
-    let e5 = c .before .before .before .before in
-    ((framed (e5 .before .before), search needs, yes (e5 .before .ranged .ensures) (e5 .if5 .left)), search needs)
+    let i = c .before .before .before .before .before in
+    let e6 = i .before in
+    let e5 = e6 .before .before in
+    ((framed (e5 .before .before), search needs, yes (e5 .before .ranged .ensures) (e5 .if5 .left), yes (e6 .before .rising .ensures) (e6 .if6 .left)), i .items-of .ensures)
 
 returns-7 : tie.Need-returns-7
 unfolding mapQuestions behind firstNo
 returns-7 c =
-    let e6 = c .before .before .before in
+    let e6 = c .before .before .before .before .before .before .before in
     let e5 = e6 .before .before in
     c .behind-6 .ensures
     ∙ sym (behind-text _ (framed (e5 .before .before)) ∙ simp (yes (e5 .before .ranged .ensures) (e5 .if5 .left), yes (e6 .before .rising .ensures) (e6 .if6 .left)))
@@ -114,7 +113,6 @@ load-spec =
     returns-5
     rising-requires
     returns-6
-    levels-requires
-    slice-aggregate-behind-6
+    items-of-requires
     behind-6-requires
     returns-7)

@@ -126,10 +126,15 @@ apply-requires c κs =
       ),
     )
 
+-- where the edit was good
+abbrev good : tie.After-apply → tie.Else2
+good p = p .before .before .before .before .before .before .before .before .before .before
+
 put-value-requires : tie.Need-put-value-requires
 put-value-requires c κs =
-    let s = c .before .before .before .before .before .before .before .before .before .before .before .before .before .before .before .before .before .before .before .before .before .before .before .before .before .before .before .before .before in
-    (s .pre .0 .0, s .pre .1 .0 .0, s .pre .1 .0 .1)
+    let k = pair (good (c .before .before .before .before .before .before .before) .before .before) in
+    let s = start k in
+    ((s .pre .0 .0, s .pre .0 .1, s .pre .1 .0 .0, s .pre .1 .0 .1), k .pair-of .ensures .loads)
 
 same-length-5 : tie.Need-same-length-5
 same-length-5 c = search needs
@@ -142,8 +147,8 @@ same-length-7 c = search needs
 
 returns-3 : tie.Need-returns-3
 returns-3 c =
-    let p = c .before .before .before .before .before .before .before .before in
-    let t = p .before .before .before .before .before .before .before .before .before .before in
+    let p = c .before .before .before .before .before .before .before .before .before .before in
+    let t = good p in
     let v = t .before .before in
     let s = start (pair v) in
     let w = p .apply .ensures (old s) (new s) (maps (pair v)) in

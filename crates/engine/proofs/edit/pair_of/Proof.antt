@@ -27,16 +27,19 @@ weigh-requires c κs =
 
 weigh-requires-2 : tie.Need-weigh-requires-2
 weigh-requires-2 c κs =
-    let k = c .before .before .before in (reads-new (k .before .before), k .plan-of .ensures)
+    let k = c .before .before .before .before in (reads-new (k .before .before), k .plan-of .ensures)
 
 rule-of-requires : tie.Need-rule-of-requires
-rule-of-requires c κs = reads-old (c .before .before .before .before .before .before)
+rule-of-requires c κs = reads-old (c .before .before .before .before .before .before .before .before .before)
 
 returns : tie.Need-returns
 returns c =
-    let s = c .before .before .before .before .before .before .before in
-    let w = c .before .before .before .weigh .ensures in
-    paired (old s) (s .args .c) _ _ _ _ (w .0) (c .before .weigh2 .ensures .0) (w .1) (c .rule-of .ensures)
+    let n = c .before .before .before in
+    let o = n .before .before .before in
+    let s = o .before .before .before .before in
+    let w = o .weigh .ensures in
+    let v = n .weigh2 .ensures in
+    paired (old s) (s .args .c) _ _ _ _ _ (w .0) (v .0) (v .1 .0) (w .1 .1) (c .rule-of .ensures)
 
 pub pair-of-spec : {M : Type 1} → statement M
 pair-of-spec =

@@ -1,4 +1,4 @@
--- `frames::records::bucket` meets its contract: the three fields stand where they are read, and the line is within the text. Assumes nothing.
+-- `frames::records::bucket` meets its contract: the four fields stand where they are read, and the line is within the text. Assumes nothing.
 use mathlib.Core.Path.{_≡_, _∙_}
 use Prim.Native.Nat.{ℕ, _+_, _*_}
 use native.Mathlib.Omega.{arith}
@@ -16,10 +16,10 @@ here : (s : tie.Start)
     → BucketAt (s .args .t .now) (bucketsStart (s .args .s) + s .args .k * lineBytes 2) (getD (mapOf (s .args .t .now) .buckets) (s .args .k) noBucket)
 here s = bucket-at (s .args .t .now) (s .pre .0) (s .args .s) (s .pre .1) (s .args .k) (s .pre .2)
 
--- three fields are a bucket
-same : (d : Bucket) (a b c : ℕ) → a ≡ d .number → b ≡ d .ty → c ≡ d .kind
-    → _≡_ {A = Bucket} (record { number = a; ty = b; kind = c }) d
-same d a b c p q r = rw (p, q, r)
+-- four fields are a bucket
+same : (d : Bucket) (a b c w : ℕ) → a ≡ d .number → b ≡ d .ty → c ≡ d .kind → w ≡ d .weight
+    → _≡_ {A = Bucket} (record { number = a; ty = b; kind = c; weight = w }) d
+same d a b c w p q r s = rw (p, q, r, s)
 
 mul-at : tie.Need-mul-at
 mul-at c = let s = c .before .before in omega (arith, here s .room, s .good .0)
@@ -51,10 +51,16 @@ add-field-3 c = let s = c .before .before .before .before in omega (arith, here 
 field-requires-3 : tie.Need-field-requires-3
 field-requires-3 c κs = omega (arith, here (c .before .before .before .before) .room)
 
+add-field-4 : tie.Need-add-field-4
+add-field-4 c = let s = c .before .before .before .before .before in omega (arith, here s .room, s .good .0)
+
+field-requires-4 : tie.Need-field-requires-4
+field-requires-4 c κs = omega (arith, here (c .before .before .before .before .before) .room)
+
 returns : tie.Need-returns
 returns c =
-    let h = here (c .before .before .before .before .before) in
-    same _ _ _ _ (c .before .before .field .ensures ∙ h .number) (c .before .field2 .ensures ∙ h .ty) (c .field3 .ensures ∙ h .kind)
+    let h = here (c .before .before .before .before .before .before) in
+    same _ _ _ _ _ (c .before .before .before .field .ensures ∙ h .number) (c .before .before .field2 .ensures ∙ h .ty) (c .before .field3 .ensures ∙ h .kind) (c .field4 .ensures ∙ h .weight)
 
 pub bucket-spec : {M : Type 1} → statement M
 bucket-spec =
@@ -70,4 +76,6 @@ bucket-spec =
     field-requires-2
     add-field-3
     field-requires-3
+    add-field-4
+    field-requires-4
     returns)

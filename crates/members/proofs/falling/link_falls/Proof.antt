@@ -30,8 +30,8 @@ link-requires c κs = search needs
 numbered-requires : tie.Need-numbered-requires
 numbered-requires c κs = search needs
 
-level-requires : tie.Need-level-requires
-level-requires c κs = let l = c .before in (l .before .before .before .pre .1 .0 .size, rw (c .numbered .ensures) (here l .child))
+look-up-requires : tie.Need-look-up-requires
+look-up-requires c κs = let l = c .before in (l .before .before .before .pre .1 .0 .size, rw (c .numbered .ensures) (here l .child))
 
 bucket-level-requires : tie.Need-bucket-level-requires
 bucket-level-requires c κs = let l = c .before .before in (l .before .before .before .pre .1 .0 .size, here l .bucket)
@@ -42,9 +42,9 @@ returns c =
     let l = v .before .before in
     let s = l .before .before .before in
     let m = mapOf (s .args .t .now) in
-    link-falls m (s .args .levels .now) (s .pre .1 .0) (l .link .result) (here l) (c .bucket-level .result) (c .bucket-level .ensures) (v .level .result) (there l)
-    (rw (v .before .numbered .ensures) at (v .level .ensures))
+    link-falls m (s .args .levels .now) (s .pre .1 .0) (l .link .result) (here l) (c .bucket-level .result) (c .bucket-level .ensures) (v .look-up .result) (there l)
+    (rw (v .before .numbered .ensures) at (v .look-up .ensures))
     ∙ ap (linkFalls m) (l .link .ensures)
 
 pub link-falls-spec : {M : Type 1} → statement M
-link-falls-spec = tie.close (tie.spec link-requires numbered-requires level-requires bucket-level-requires returns)
+link-falls-spec = tie.close (tie.spec link-requires numbered-requires look-up-requires bucket-level-requires returns)

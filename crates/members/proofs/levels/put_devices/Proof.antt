@@ -1,5 +1,5 @@
--- `members::levels::put_devices` meets its contract: after k turns the table is that of the first k devices, and each device's number is
--- a slot. Assumes nothing.
+-- `members::levels::put_devices` meets its contract: after k turns the tables are those of the first k devices, and each device's number
+-- is a slot. Assumes nothing.
 use mathlib.Core.Path.{_≡_, sym, ap, _∙_}
 use mathlib.Core.Logic.{inl}
 use Prim.Native.Nat.{_≤_, _<_, _-_}
@@ -10,15 +10,16 @@ use Rattle.definitions.specs.Map.{mapOf}
 use Rattle.laws.specs.Loadable.{DeviceRanged}
 use Rattle.text.specs.Records.{shape-devices}
 use Rattle.members.specs.Tables.{blank}
-use Rattle.members.specs.Levels.{slotOf, slot-device, device-in, devicesTo, devices-none, devices-more}
+use Rattle.members.specs.Levels.{slotOf, slot-device, device-in, deviceLevel, deviceOwn, devicesTo, devices-none, devices-more}
 use Rattle.members.proofs.levels.put_devices.Statement.{statement}
 use Rattle.members.proofs.levels.put_devices.Tie as tie
 
 abbrev Inv-loop : tie.InvT-loop
-Inv-loop t n table₀ k₀ table k = (k ≤ n) × (table ≡ devicesTo (mapOf t) k)
+Inv-loop t n levels₀ weights₀ k₀ levels weights k =
+    (k ≤ n) × (levels ≡ devicesTo deviceLevel (mapOf t) k) × (weights ≡ devicesTo deviceOwn (mapOf t) k)
 
 abbrev μ-loop : tie.MeasureT-loop
-μ-loop t n table₀ k₀ table k = n - k
+μ-loop t n levels₀ weights₀ k₀ levels weights k = n - k
 
 -- the count is that of the map's devices
 count : (s : tie.Start Inv-loop μ-loop) → s .args .s .devices ≡ length (mapOf (s .args .t .now) .devices)
@@ -36,7 +37,9 @@ here c =
 
 loop-holds : tie.Need-loop-holds Inv-loop μ-loop
 unfolding blank
-loop-holds c = (search needs, devices-none (mapOf (c .before .args .t .now)))
+loop-holds c =
+    let m = mapOf (c .before .args .t .now) in
+    (search needs, devices-none m deviceLevel, devices-none m deviceOwn)
 
 device-requires : tie.Need-device-requires Inv-loop μ-loop
 device-requires c κs = (c .before .before .before .pre .0, at c)
@@ -53,11 +56,17 @@ slot c =
     let d = c .before .before in
     c .slot .ensures .0 ∙ ap slotOf (c .before .device2 .ensures) ∙ sym (slot-device (d .device .result .number) (omega (arith, here d .number)))
 
-mul-table : tie.Need-mul-table Inv-loop μ-loop
-mul-table c = search needs
+mul-levels : tie.Need-mul-levels Inv-loop μ-loop
+mul-levels c = search needs
 
-array-write-table : tie.Need-array-write-table Inv-loop μ-loop
-array-write-table c = search needs
+array-write-levels : tie.Need-array-write-levels Inv-loop μ-loop
+array-write-levels c = search needs
+
+mul-weights : tie.Need-mul-weights Inv-loop μ-loop
+mul-weights c = search needs
+
+array-write-weights : tie.Need-array-write-weights Inv-loop μ-loop
+array-write-weights c = search needs
 
 add-k : tie.Need-add-k Inv-loop μ-loop
 add-k c = search needs
@@ -68,16 +77,19 @@ loop-less c = search needs
 loop-again : tie.Need-loop-again Inv-loop μ-loop
 loop-again c =
     let d = c .before .before in
-    let l = d .before .before in (
+    let l = d .before .before in
+    let m = mapOf (l .before .before .args .t .now) in (
       search needs,
-      rw (slot c)
-          (devices-more (mapOf (l .before .before .args .t .now)) (l .loop .k) (l .loop .table) (d .device .result) (l .loop .inv .1) (d .device .ensures)),
+      rw (slot c) (devices-more m deviceLevel (l .loop .k) (l .loop .levels) (d .device .result) (l .loop .inv .1) (d .device .ensures)),
+      rw (slot c) (devices-more m deviceOwn (l .loop .k) (l .loop .weights) (d .device .result) (l .loop .inv .2) (d .device .ensures)),
     )
 
 returns : tie.Need-returns Inv-loop μ-loop
 returns c =
     let s = c .before .before .before in
-    c .before .loop .inv .1 ∙ ap (devicesTo (mapOf (s .args .t .now))) (omega (arith, c .loop-test .left, count s))
+    let m = mapOf (s .args .t .now) in
+    let e : c .before .loop .k ≡ length (m .devices) = omega (arith, c .loop-test .left, count s) in
+    (c .before .loop .inv .1 ∙ ap (devicesTo deviceLevel m) e, c .before .loop .inv .2 ∙ ap (devicesTo deviceOwn m) e)
 
 pub put-devices-spec : {M : Type 1} → statement M
 put-devices-spec =
@@ -89,8 +101,10 @@ put-devices-spec =
     device-requires
     device-requires-2
     slot-requires
-    mul-table
-    array-write-table
+    mul-levels
+    array-write-levels
+    mul-weights
+    array-write-weights
     add-k
     loop-less
     loop-again

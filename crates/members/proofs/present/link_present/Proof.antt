@@ -31,8 +31,8 @@ returns c =
 numbered-requires : tie.Need-numbered-requires
 numbered-requires c κs = search needs
 
-level-requires : tie.Need-level-requires
-level-requires c κs =
+look-up-requires : tie.Need-look-up-requires
+look-up-requires c κs =
     let l = c .before .before .before in
     (l .before .before .before .pre .1 .0 .size, rw (c .numbered .ensures) (here l .child))
 
@@ -43,10 +43,10 @@ returns-2 c =
     let l = b .before in
     let s = l .before .before .before in
     let m = mapOf (s .args .t .now) in
-    link-there m (s .args .levels .now) (s .pre .1 .0) (l .link .result) (here l) (b .bucket-level .result) (b .bucket-level .ensures) (c .level .result) (e .if1 .left)
-    (rw (c .before .numbered .ensures) at (c .level .ensures))
+    link-there m (s .args .levels .now) (s .pre .1 .0) (l .link .result) (here l) (b .bucket-level .result) (b .bucket-level .ensures) (c .look-up .result) (e .if1 .left)
+    (rw (c .before .numbered .ensures) at (c .look-up .ensures))
     ∙ ap (linkPresent m) (l .link .ensures)
 
 pub link-present-spec : {M : Type 1} → statement M
 link-present-spec =
-    tie.close (tie.spec link-requires bucket-level-requires returns numbered-requires level-requires returns-2)
+    tie.close (tie.spec link-requires bucket-level-requires returns numbered-requires look-up-requires returns-2)

@@ -1,0 +1,121 @@
+-- `members::sums::summed` meets its contract: the buckets from k on are left to ask. Assumes nothing.
+use mathlib.Core.Path.{_≡_, refl, sym, ap, _∙_}
+use Prim.Native.Nat.{_≤_, _<_, _-_}
+use native.Mathlib.Omega.{arith}
+use lib.ListN.{length, getD, drop}
+use borrow.Author.Needs.{needs}
+use lib.Dec.{eqb}
+use borrow.Author.Tests.{eq-eqb, ne-eqb}
+use Rattle.definitions.specs.Lists.{every}
+use Rattle.definitions.specs.Map.{Map, mapOf}
+use Rattle.definitions.specs.Load.{summed}
+use Rattle.laws.specs.Lists.{every-next, every-stop, every-end}
+use Rattle.laws.specs.Loadable.{BucketRanged}
+use Rattle.text.specs.Records.{noBucket, shape-buckets}
+use Rattle.members.specs.Levels.{bucket-in}
+use Rattle.members.specs.Sums.{bucketAdds, adds-summed, sum-answers}
+use Rattle.members.proofs.sums.summed.Statement.{statement}
+use Rattle.members.proofs.sums.summed.Tie as tie
+
+abbrev Inv-loop : tie.InvT-loop
+Inv-loop t s sums n k₀ k =
+    (k ≤ n) × (every (bucketAdds (mapOf t)) (drop k (mapOf t .buckets)) ≡ every (bucketAdds (mapOf t)) (mapOf t .buckets))
+
+abbrev μ-loop : tie.MeasureT-loop
+μ-loop t s sums n k₀ k = n - k
+
+-- what the function was lent, and its map
+abbrev start : tie.At-loop Inv-loop μ-loop → tie.Start Inv-loop μ-loop
+start l = l .before .before .before
+
+abbrev m : tie.At-loop Inv-loop μ-loop → Map
+m l = mapOf (start l .args .t .now)
+
+-- the count is that of the map's buckets
+count : (c : tie.At-loop Inv-loop μ-loop) → start c .args .s .buckets ≡ length (m c .buckets)
+count c = let s = start c in shape-buckets (s .args .t .now) (s .args .s) (s .pre .0 .1)
+
+-- in a turn, k is a bucket's place
+at : (c : tie.In-loop Inv-loop μ-loop) → c .before .loop .k < length (m (c .before) .buckets)
+at c = omega (arith, c .loop-test .taken, count (c .before))
+
+-- and the bucket is in range
+here : (c : tie.After-bucket Inv-loop μ-loop) → BucketRanged (c .bucket .result)
+here c =
+    let l = c .before .before in
+    bucket-in (m l) (start l .pre .0 .2) (l .loop .k) (c .bucket .result) (at (c .before)) (c .bucket .ensures)
+
+-- the whole question
+whole : (l : tie.At-loop Inv-loop μ-loop) → every (bucketAdds (m l)) (m l .buckets) ≡ summed (m l)
+whole l = let p = start l .pre .1 .0 in adds-summed (m l) (p .0) (p .1) (p .2)
+
+-- what the code asks is asked of bucket k
+asked : (b : tie.After-bucket Inv-loop μ-loop)
+    → let l = b .before .before in
+    bucketAdds (m l) (getD (m l .buckets) (l .loop .k) noBucket) ≡ eqb (b .bucket .result .weight) (getD (start l .args .sums .now) (b .bucket .result .number) 0)
+asked b =
+    let l = b .before .before in
+    ap (bucketAdds (m l)) (sym (b .bucket .ensures)) ∙ sym (sum-answers (m l) (start l .args .sums .now) (start l .pre .1 .1) (b .bucket .result) (here b .number))
+
+loop-holds : tie.Need-loop-holds Inv-loop μ-loop
+loop-holds c = (search needs, refl)
+
+bucket-requires : tie.Need-bucket-requires Inv-loop μ-loop
+bucket-requires c κs = let s = start (c .before) in (s .pre .0 .0, s .pre .0 .1, at c)
+
+cast-i : tie.Need-cast-i Inv-loop μ-loop
+cast-i c = search needs
+
+cast-if1 : tie.Need-cast-if1 Inv-loop μ-loop
+cast-if1 c = search needs
+
+mul-if1 : tie.Need-mul-if1 Inv-loop μ-loop
+mul-if1 c = search needs
+
+shared-slice-read-if1 : tie.Need-shared-slice-read-if1 Inv-loop μ-loop
+shared-slice-read-if1 c =
+    let b = c .before .before .before in
+    omega (arith, here b .number, start (b .before .before) .pre .1 .1 .size)
+
+returns : tie.Need-returns Inv-loop μ-loop
+returns c =
+    let b = c .before .before .before .before in
+    let l = b .before .before in
+    let no = asked b ∙ ne-eqb _ _ (c .if1 .taken) in
+    sym (every-stop (bucketAdds (m l)) (m l .buckets) (l .loop .k) noBucket (at (b .before)) no) ∙ l .loop .inv .1 ∙ whole l
+
+add-k : tie.Need-add-k Inv-loop μ-loop
+add-k c = search needs
+
+loop-less : tie.Need-loop-less Inv-loop μ-loop
+loop-less c = search needs
+
+loop-again : tie.Need-loop-again Inv-loop μ-loop
+loop-again c =
+    let b = c .before .before .before .before in
+    let l = b .before .before in
+    let yes = asked b ∙ eq-eqb _ _ (c .if1 .left) in
+    (search needs, every-next (bucketAdds (m l)) (m l .buckets) (l .loop .k) noBucket (at (b .before)) yes ∙ l .loop .inv .1)
+
+returns-2 : tie.Need-returns-2 Inv-loop μ-loop
+returns-2 c =
+    let l = c .before in
+    sym (every-end (bucketAdds (m l)) (m l .buckets) (l .loop .k) (omega (arith, c .loop-test .left, count l))) ∙ l .loop .inv .1 ∙ whole l
+
+pub summed-spec : {M : Type 1} → statement M
+summed-spec =
+    tie.close
+    (tie.spec
+    Inv-loop
+    μ-loop
+    loop-holds
+    bucket-requires
+    cast-i
+    cast-if1
+    mul-if1
+    shared-slice-read-if1
+    returns
+    add-k
+    loop-less
+    loop-again
+    returns-2)
