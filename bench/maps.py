@@ -7,26 +7,21 @@ FULL = 65536
 BASE = 65536  # a bucket's item number is this and its own number
 
 
-def weigher(devices, links):
-    """What tells the weight of an item by its number: a bucket weighs what its children do."""
+def weights_of(devices, buckets, links):
+    """The weight of each item by its number. Buckets of smaller types come first: the others have them as children."""
     weights = {n: weight for n, weight, _ in devices}
-    children = {}
-    for bucket, child in links:
-        children.setdefault(BASE + bucket, []).append(child)
-
-    def weight_of(item):
-        return weights[item] if item < BASE else sum(map(weight_of, children[item]))
-
-    return weight_of
+    for number, _, _ in sorted(buckets, key=lambda bucket: bucket[1]):
+        weights[BASE + number] = sum(weights[child] for bucket, child in links if bucket == number)
+    return weights
 
 
 def text_of(groups, devices, buckets, links, steps):
     """The frames of a map. devices: (number, weight, acceptance); buckets: (number, type, kind); links: (bucket, child); steps: (step, count,
     type, bucket)."""
-    weight_of = weigher(devices, links)
+    weights = weights_of(devices, buckets, links)
     lines = [f"00{groups:08x}"]
     lines += [f"01{n:04x}{weight:08x}{acceptance:08x}" for n, weight, acceptance in devices]
-    lines += [f"02{n:04x}{type_:02x}{kind:02x}{weight_of(BASE + n):08x}" for n, type_, kind in buckets]
+    lines += [f"02{n:04x}{type_:02x}{kind:02x}{weights[BASE + n]:08x}" for n, type_, kind in buckets]
     lines += [f"03{bucket:04x}{child:08x}" for bucket, child in sorted(links)]
     lines += [f"04{step:02x}{count:02x}{type_:02x}{bucket:04x}" for step, count, type_, bucket in steps]
     lines.append(f"05{len(lines):04x}")
@@ -85,7 +80,7 @@ def dead(n):
 
 ARCHIVE = pathlib.Path(__file__).resolve().parent.parent / "examples" / "archive.map"
 
-# the maps of the table: 1,024 drives each, and the example archive of 224
+# the maps of the table: 1,024 drives each, or 960 where there are as many buckets as can be, and the example archive of 224
 COMPARED = [
     ("equal", "4 x 16 x 16, equal weights", lambda: nested(1024, (4, 16, 16))),
     ("mixed", "4 x 16 x 16, mixed weights", lambda: nested(1024, (4, 16, 16), weight=mixed)),
@@ -94,6 +89,7 @@ COMPARED = [
     ("half", "4 x 16 x 16, half at acceptance 0", lambda: nested(1024, (4, 16, 16), acceptance=half)),
     ("through", "4 x 16 x 16, through 3 cabinets", lambda: nested(1024, (4, 16, 16), through=True)),
     ("dead", "the same, 4 of the 64 cabinets dead", lambda: nested(1024, (4, 16, 16), acceptance=dead, through=True)),
+    ("buckets", "15 x 16 x 4, 256 buckets", lambda: nested(1024, (15, 16, 4))),
     ("archive", "examples/archive.map", ARCHIVE.read_text),
 ]
 

@@ -59,10 +59,16 @@ fn types_of(table: &[u32]) -> [u32; 256]
 }
 
 // The number of the first question behind 10 that is answered no, or 0: 11, 21 and 12, which are on the rule, and 23 and 13, on weights.
-fn behind_10(t: &[u8], s: Shape, table: &[u32], sums: &[u64]) -> u32
+fn behind_10<'a, 'b>(
+    t: &'a [u8],
+    s: Shape,
+    table: &'b [u32],
+    weights: &'b [u32],
+    sums: &[u64],
+) -> u32
     requires { ⌜ Framed (now t) × (s ≡ shapeOf (framesIn (now t))) × (ranged (mapOf (now t)) ≡ true) ⌝ }
     requires { ⌜ (rising (mapOf (now t)) ≡ true) × (present (mapOf (now t)) ≡ true) × (falling (mapOf (now t)) ≡ true) ⌝ }
-    requires { ⌜ Levels (mapOf (now t)) (now table) × Sums (mapOf (now t)) (now sums) ⌝ }
+    requires { ⌜ Levels (mapOf (now t)) (now table) × Weights (mapOf (now t)) (now weights) × Sums (mapOf (now t)) (now sums) ⌝ }
     ensures { λ r. ⌜ r ≡ firstNo (behind 10 (mapQuestions (mapOf (now (t .entry))))) ⌝ }
 {
     let types = types_of(table);
@@ -75,7 +81,7 @@ fn behind_10(t: &[u8], s: Shape, table: &[u32], sums: &[u64]) -> u32
     if !widths::slim(t, s) {
         return 12;
     }
-    if !sums::summed(t, s, sums) {
+    if !sums::summed(t, s, weights, sums) {
         return 23;
     }
     if !light::light(t, s) {
@@ -106,7 +112,7 @@ fn behind_6<'a, 'b>(t: &'a [u8], s: Shape, table: &'b [u32], weights: &'b [u32])
     if !sizes::every_bucket(t, s, &totals.counts, Asked::Narrow) {
         return 10;
     }
-    behind_10(t, s, table, &totals.sums)
+    behind_10(t, s, table, weights, &totals.sums)
 }
 
 // The number of the first question answered no, or 0.

@@ -59,6 +59,15 @@ pub fn bucket(t: &[u8], s: Shape, k: usize) -> Bucket
     }
 }
 
+// The number of bucket k, for those who need no more of it.
+pub fn bucket_number(t: &[u8], s: Shape, k: usize) -> u32
+    requires { ⌜ Framed (now t) × (s ≡ shapeOf (framesIn (now t))) × (k < length (mapOf (now t) .buckets)) ⌝ }
+    ensures { λ r. ⌜ r ≡ getD (mapOf (now (t .entry)) .buckets) k noBucket .number ⌝ }
+{
+    let at = lines::GROUPS + s.devices * lines::DEVICE + k * lines::BUCKET;
+    digits::field(t, at + 2, 4)
+}
+
 // Link k.
 pub fn link(t: &[u8], s: Shape, k: usize) -> Link
     requires { ⌜ Framed (now t) × (s ≡ shapeOf (framesIn (now t))) × (k < length (mapOf (now t) .links)) ⌝ }

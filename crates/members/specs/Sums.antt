@@ -23,7 +23,8 @@ use Rattle.laws.specs.Loadable.{rising-is, present-is}
 use Rattle.laws.specs.Forest.{kidsOf, kids-bucket, kid-link, kid-falls, weight-device, weight-bucket}
 use Rattle.text.specs.Records.{noBucket, noLink}
 use Rattle.members.specs.Tables.{blank, blank-length, blank-at}
-use Rattle.members.specs.Weights.{bucketWritten, writtenOf, written-device, written-bucket}
+use Rattle.members.specs.Levels.{lookedUp, bucket-item}
+use Rattle.members.specs.Weights.{bucketWritten, writtenOf, written-device, written-bucket, Weights}
 use Rattle.members.specs.Counts.{linksOf}
 
 -- what stands in the frames of the children of bucket b, added
@@ -198,6 +199,13 @@ module _ (m : Map) (r : rising m ≡ true) (p : present m ≡ true) (f : falling
   unfolding summed
   adds-summed = one-answer (every (bucketAdds m) (m .buckets)) (every (bucketSums m) (m .buckets)) adds-then sums-then
 
--- a bucket's test is that of its sum in the table r
-pub sum-answers : (m : Map) (r : List ℕ) → Sums m r → (b : Bucket) → b .number ≤ 255 → eqb (b .weight) (getD r (b .number) 0) ≡ bucketAdds m b
-sum-answers m r h b l = ap (eqb (b .weight)) (h .added (b .number) (omega arith))
+-- the test of the bucket at k is that of the two tables at its number
+pub sum-answers : (m : Map) → rising m ≡ true → (ws r : List ℕ) → Weights m ws → Sums m r → (k : ℕ) → k < length (m .buckets) → getD (m .buckets) k noBucket .number ≤ 255
+    → eqb (lookedUp ws (bucketItem (getD (m .buckets) k noBucket .number))) (getD r (getD (m .buckets) k noBucket .number) 0) ≡ bucketAdds m (getD (m .buckets) k noBucket)
+sum-answers m g ws r W S k l h =
+    let b = getD (m .buckets) k noBucket in
+    let z : bucketNumber (bucketItem (b .number)) ≡ b .number = omega arith in
+    let w : lookedUp ws (bucketItem (b .number)) ≡ b .weight
+    = W .weight (bucketItem (b .number)) (bucket-item (b .number) h) ∙ written-bucket m (bucketItem (b .number)) (omega arith) ∙ ap (bucketWritten m) z
+    ∙ lookup-at (λ (x : Bucket). x .number) noBucket (λ (x : Bucket). x .weight) (m .buckets) k (rising-is m g .buckets) l in
+    ap (λ (n : ℕ). eqb n (getD r (b .number) 0)) w ∙ ap (eqb (b .weight)) (S .added (b .number) (omega arith))

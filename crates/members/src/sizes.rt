@@ -34,8 +34,7 @@ pub fn every_bucket(t: &[u8], s: Shape, counts: &[u32], q: Asked) -> bool
     let n = s.buckets;
     let mut k: usize = 0;
     while k < n {
-        let b = records::bucket(t, s, k);
-        let i = b.number as usize;
+        let i = records::bucket_number(t, s, k) as usize;
         if !answer(q, counts[i]) {
             return false;
         }

@@ -7,22 +7,25 @@ ghost use Rattle.definitions.specs.Map.{mapOf};
 ghost use Rattle.definitions.specs.Load.{ranged, rising, present, falling, summed};
 ghost use Rattle.text.specs.Shape.{shapeOf};
 ghost use Rattle.text.specs.RoundTrip.{Framed};
+ghost use Rattle.members.specs.Weights.{Weights};
 ghost use Rattle.members.specs.Sums.{Sums};
+use crate::levels;
 use frames::records;
+use item::Item;
 use text::Shape;
 
-pub fn summed(t: &[u8], s: Shape, sums: &[u64]) -> bool
+pub fn summed(t: &[u8], s: Shape, weights: &[u32], sums: &[u64]) -> bool
     requires { ⌜ Framed (now t) × (s ≡ shapeOf (framesIn (now t))) × (ranged (mapOf (now t)) ≡ true) ⌝ }
     requires { ⌜ (rising (mapOf (now t)) ≡ true) × (present (mapOf (now t)) ≡ true) × (falling (mapOf (now t)) ≡ true) ⌝ }
-    requires { ⌜ Sums (mapOf (now t)) (now sums) ⌝ }
+    requires { ⌜ Weights (mapOf (now t)) (now weights) × Sums (mapOf (now t)) (now sums) ⌝ }
     ensures { λ r. ⌜ r ≡ summed (mapOf (now (t .entry))) ⌝ }
 {
     let n = s.buckets;
     let mut k: usize = 0;
     while k < n {
-        let b = records::bucket(t, s, k);
-        let i = b.number as usize;
-        if b.weight as u64 != sums[i] {
+        let b = records::bucket_number(t, s, k);
+        let weight = levels::look_up(weights, Item::bucket(b));
+        if weight as u64 != sums[b as usize] {
             return false;
         }
         k += 1;

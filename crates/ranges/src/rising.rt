@@ -40,11 +40,11 @@ fn buckets(t: &[u8], s: Shape) -> bool
     if s.buckets == 0 {
         return true;
     }
-    let mut last = records::bucket(t, s, 0);
+    let mut last = records::bucket_number(t, s, 0);
     let mut k: usize = 1;
     while k < s.buckets {
-        let b = records::bucket(t, s, k);
-        if b.number <= last.number {
+        let b = records::bucket_number(t, s, k);
+        if b <= last {
             return false;
         }
         last = b;

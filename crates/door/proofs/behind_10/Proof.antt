@@ -21,16 +21,16 @@ slice-aggregate-in-blocks c = search needs
 
 in-blocks-requires : tie.Need-in-blocks-requires
 in-blocks-requires c κs =
-    let s = c .before .before .before .before .before in
+    let s = c .before .before .before .before .before .before in
     let q = c .before .types-of .ensures in
     let table = s .args .table .now in
     (s .pre .0, (ap length q ∙ types-length table 256, λ b h. ap (λ (l : List ℕ). getD l b 0) q ∙ types-are _ table (s .pre .1 .1 .0) b h))
 
 returns : tie.Need-returns
 unfolding mapQuestions behind
-returns c = refused (all-left 10 (mapOf (c .before .before .before .before .before .before .before .args .t .now))) refl (c .before .in-blocks .ensures) (c .if1 .taken)
+returns c = refused (all-left 10 (mapOf (c .before .before .before .before .before .before .before .before .args .t .now))) refl (c .before .in-blocks .ensures) (c .if1 .taken)
 
-left11 : (c : tie.Else1) → Left 10 11 (mapOf (c .before .before .before .before .before .before .before .args .t .now))
+left11 : (c : tie.Else1) → Left 10 11 (mapOf (c .before .before .before .before .before .before .before .before .args .t .now))
 unfolding mapQuestions behind
 left11 c = passed (all-left 10 _) refl (c .before .in-blocks .ensures) (c .if1 .left)
 
@@ -41,7 +41,7 @@ returns-2 : tie.Need-returns-2
 unfolding mapQuestions behind
 returns-2 c = refused (left11 (c .before .before)) refl (c .before .typed .ensures) (c .if2 .taken)
 
-left21 : (c : tie.Else2) → Left 10 21 (mapOf (c .before .before .before .before .before .before .before .before .before .args .t .now))
+left21 : (c : tie.Else2) → Left 10 21 (mapOf (c .before .before .before .before .before .before .before .before .before .before .args .t .now))
 unfolding mapQuestions behind
 left21 c = passed (left11 (c .before .before)) refl (c .before .typed .ensures) (c .if2 .left)
 
@@ -52,7 +52,7 @@ returns-3 : tie.Need-returns-3
 unfolding mapQuestions behind
 returns-3 c = refused (left21 (c .before .before)) refl (c .before .slim .ensures) (c .if3 .taken)
 
-left12 : (c : tie.Else3) → Left 10 12 (mapOf (c .before .before .before .before .before .before .before .before .before .before .before .args .t .now))
+left12 : (c : tie.Else3) → Left 10 12 (mapOf (c .before .before .before .before .before .before .before .before .before .before .before .before .args .t .now))
 unfolding mapQuestions behind
 left12 c = passed (left21 (c .before .before)) refl (c .before .slim .ensures) (c .if3 .left)
 
@@ -63,7 +63,7 @@ returns-4 : tie.Need-returns-4
 unfolding mapQuestions behind
 returns-4 c = refused (left12 (c .before .before)) refl (c .before .summed .ensures) (c .if4 .taken)
 
-left23 : (c : tie.Else4) → Left 10 23 (mapOf (c .before .before .before .before .before .before .before .before .before .before .before .before .before .args .t .now))
+left23 : (c : tie.Else4) → Left 10 23 (mapOf (c .before .before .before .before .before .before .before .before .before .before .before .before .before .before .args .t .now))
 unfolding mapQuestions behind
 left23 c = passed (left12 (c .before .before)) refl (c .before .summed .ensures) (c .if4 .left)
 

@@ -91,7 +91,7 @@ behind-10-requires c κs =
     let e1 = e3 .before .before .before .before in
     let p = start e3 .pre in (
       (p .0 .0, p .0 .1, p .0 .2),
-      ((p .0 .3, yes (e1 .before .present .ensures) (e1 .if1 .left), yes (e3 .before .falling .ensures) (e3 .if3 .left)), (p .1 .0, t .totals-of .ensures .1)),
+      ((p .0 .3, yes (e1 .before .present .ensures) (e1 .if1 .left), yes (e3 .before .falling .ensures) (e3 .if3 .left)), (p .1 .0, p .1 .1, t .totals-of .ensures .1)),
     )
 
 returns-6 : tie.Need-returns-6

@@ -1,7 +1,7 @@
 -- `members::sizes::every_bucket` meets its contract: the buckets from k on are left to ask. Assumes nothing.
 use mathlib.Core.Path.{_≡_, refl, sym, ap, _∙_}
 use mathlib.Core.Bool.{Bool}
-use Prim.Native.Nat.{_≤_, _<_, _-_}
+use Prim.Native.Nat.{ℕ, _≤_, _<_, _-_}
 use native.Mathlib.Omega.{arith}
 use lib.ListN.{length, getD, drop}
 use borrow.Author.Needs.{needs}
@@ -10,10 +10,9 @@ use Rattle.definitions.specs.declared.Bucket.{Bucket}
 use Rattle.definitions.specs.Lists.{every}
 use Rattle.definitions.specs.Map.{Map, mapOf}
 use Rattle.laws.specs.Lists.{every-next, every-stop, every-end}
-use Rattle.laws.specs.Loadable.{BucketRanged}
 use Rattle.text.specs.Records.{noBucket, shape-buckets}
 use Rattle.members.specs.Levels.{bucket-in}
-use Rattle.members.specs.Sizes.{bucketAnswers, asks-each, count-answers}
+use Rattle.members.specs.Sizes.{answers, bucketAnswers, asks-each, count-answers}
 use Rattle.members.proofs.sizes.every_bucket.Statement.{statement}
 use Rattle.members.proofs.sizes.every_bucket.Tie as tie
 
@@ -39,44 +38,45 @@ count c = let s = c .before .before .before in shape-buckets (s .args .t .now) (
 at : (c : tie.In-loop Inv-loop μ-loop) → c .before .loop .k < length (m (c .before) .buckets)
 at c = omega (arith, c .loop-test .taken, count (c .before))
 
--- and the bucket is in range
-here : (c : tie.After-bucket Inv-loop μ-loop) → BucketRanged (c .bucket .result)
+-- and the bucket's number is in range
+here : (c : tie.After-bucket-number Inv-loop μ-loop) → c .bucket-number .result ≤ 255
 here c =
     let l = c .before .before in
-    bucket-in (m l) (l .before .before .before .pre .0 .2) (l .loop .k) (c .bucket .result) (at (c .before)) (c .bucket .ensures)
+    let b = bucket-in (m l) (l .before .before .before .pre .0 .2) (l .loop .k) (getD (m l .buckets) (l .loop .k) noBucket) (at (c .before)) refl in
+    omega (arith, c .bucket-number .ensures, b .number)
 
 -- what the code asks is asked of bucket k
-asked : (c : tie.After-answer Inv-loop μ-loop)
-    → let l = c .before .before .before .before .before in test l (getD (m l .buckets) (l .loop .k) noBucket) ≡ c .answer .result
+asked : (c : tie.After-answer Inv-loop μ-loop) → let l = c .before .before .before .before in test l (getD (m l .buckets) (l .loop .k) noBucket) ≡ c .answer .result
 asked c =
-    let b = c .before .before .before in
+    let b = c .before .before in
     let l = b .before .before in
     let s = l .before .before .before in
-    ap (test l) (sym (b .bucket .ensures)) ∙ sym (c .answer .ensures ∙ count-answers (m l) (s .args .counts .now) (s .pre .1) (s .args .q) (b .bucket .result) (here b .number))
+    sym (c .answer .ensures ∙ ap (λ (i : ℕ). answers (s .args .q) (getD (s .args .counts .now) i 0)) (b .bucket-number .ensures)
+    ∙ count-answers (m l) (s .args .counts .now) (s .pre .1) (s .args .q) (getD (m l .buckets) (l .loop .k) noBucket) (omega (arith, here b, b .bucket-number .ensures)))
 
 loop-holds : tie.Need-loop-holds Inv-loop μ-loop
 loop-holds c = (search needs, refl)
 
-bucket-requires : tie.Need-bucket-requires Inv-loop μ-loop
-bucket-requires c κs = let s = c .before .before .before .before in (s .pre .0 .0, s .pre .0 .1, at c)
+bucket-number-requires : tie.Need-bucket-number-requires Inv-loop μ-loop
+bucket-number-requires c κs = let s = c .before .before .before .before in (s .pre .0 .0, s .pre .0 .1, at c)
 
 cast-i : tie.Need-cast-i Inv-loop μ-loop
-cast-i c = omega (arith, here (c .before) .number)
+cast-i c = omega (arith, here c)
 
 mul-answer : tie.Need-mul-answer Inv-loop μ-loop
-mul-answer c = omega (arith, here (c .before) .number)
+mul-answer c = omega (arith, here c)
 
 shared-slice-read-answer : tie.Need-shared-slice-read-answer Inv-loop μ-loop
 shared-slice-read-answer c =
-    let b = c .before .before in
-    omega (arith, here b .number, b .before .before .before .before .before .pre .1 .size)
+    let b = c .before in
+    omega (arith, here b, b .before .before .before .before .before .pre .1 .size)
 
 answer-requires : tie.Need-answer-requires Inv-loop μ-loop
 answer-requires c κs = search needs
 
 returns : tie.Need-returns Inv-loop μ-loop
 returns c =
-    let i = c .before .before .before .before .before in
+    let i = c .before .before .before .before in
     let l = i .before in
     let no = asked (c .before) ∙ not-true _ (c .if1 .taken) in
     sym (every-stop (test l) (m l .buckets) (l .loop .k) noBucket (at i) no) ∙ l .loop .inv .1 ∙ asks-each (l .before .before .before .args .q) (m l)
@@ -89,7 +89,7 @@ loop-less c = search needs
 
 loop-again : tie.Need-loop-again Inv-loop μ-loop
 loop-again c =
-    let i = c .before .before .before .before .before in
+    let i = c .before .before .before .before in
     let l = i .before in
     let yes = asked (c .before) ∙ not-false _ (c .if1 .left) in
     (search needs, every-next (test l) (m l .buckets) (l .loop .k) noBucket (at i) yes ∙ l .loop .inv .1)
@@ -106,7 +106,7 @@ every-bucket-spec =
     Inv-loop
     μ-loop
     loop-holds
-    bucket-requires
+    bucket-number-requires
     cast-i
     mul-answer
     shared-slice-read-answer

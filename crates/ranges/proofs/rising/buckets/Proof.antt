@@ -1,12 +1,12 @@
 -- `ranges::rising::buckets` meets its contract. The loop's invariant: what the last of the first k buckets and those from k on say is what all say.
 -- Assumes nothing.
-use mathlib.Core.Path.{_≡_}
+use mathlib.Core.Path.{_≡_, refl}
 use mathlib.Core.Bool.{Bool}
 use mathlib.Core.List.{List}
-use Prim.Native.Nat.{_-_}
+use Prim.Native.Nat.{ℕ, _-_}
 use native.Mathlib.Omega.{arith}
 use lib.Dec.{ltb}
-use lib.ListN.{length}
+use lib.ListN.{length, getD}
 use borrow.Author.Needs.{needs}
 use borrow.Author.Tests.{lt-ltb, le-ltb}
 use Rattle.definitions.specs.declared.Bucket.{Bucket}
@@ -20,8 +20,14 @@ use Rattle.ranges.proofs.rising.buckets.Tie as tie
 abbrev below : Bucket → Bucket → Bool
 below a b = ltb (a .number) (b .number)
 
+-- the last of the first k buckets, by its number
+record Last (bs : List Bucket) (k n : ℕ) : Type 0 where
+  bucket : Bucket
+  number : n ≡ bucket .number
+  chained : Chained below bs noBucket k bucket
+
 abbrev Inv-loop : tie.InvT-loop
-Inv-loop t s last₀ k₀ last k = Chained below (mapOf t .buckets) noBucket k last
+Inv-loop t s last₀ k₀ last k = Last (mapOf t .buckets) k last
 
 abbrev μ-loop : tie.MeasureT-loop
 μ-loop t s last₀ k₀ last k = s .buckets - k
@@ -36,26 +42,31 @@ count s = shape-buckets (s .args .t .now) (s .args .s) (s .pre .1)
 returns : tie.Need-returns Inv-loop μ-loop
 returns c = let s = c .before .before .before in chained-none below (xs s) noBucket _ (count s) (c .if1 .taken)
 
-bucket-requires : tie.Need-bucket-requires Inv-loop μ-loop
-bucket-requires c κs = let s = c .before .before .before in (s .pre .0, s .pre .1, omega (arith, count s))
+bucket-number-requires : tie.Need-bucket-number-requires Inv-loop μ-loop
+bucket-number-requires c κs = let s = c .before .before .before in (s .pre .0, s .pre .1, omega (arith, count s))
 
 loop-holds : tie.Need-loop-holds Inv-loop μ-loop
 loop-holds c =
     let s = c .before .before .before .before in
-    chained-first below (xs s) noBucket _ (count s) _ (c .before .if1 .left) (c .bucket .ensures)
+    record {
+      bucket = getD (xs s) 0 noBucket;
+      number = c .bucket-number .ensures;
+      chained = chained-first below (xs s) noBucket _ (count s) _ (c .before .if1 .left) refl;
+    }
 
-bucket-requires-2 : tie.Need-bucket-requires-2 Inv-loop μ-loop
-bucket-requires-2 c κs =
+bucket-number-requires-2 : tie.Need-bucket-number-requires-2 Inv-loop μ-loop
+bucket-number-requires-2 c κs =
     let s = c .before .before .before .before .before .before .before in
     (s .pre .0, s .pre .1, omega (arith, count s))
 
 returns-2 : tie.Need-returns-2 Inv-loop μ-loop
 returns-2 c =
-    let b = c .before .before .before .before in
+    let b = c .before .before in
     let l = b .before .before in
     let s = l .before .before .before .before .before in
-    chained-stop below (xs s) noBucket _ (count s) (l .loop .k) (l .loop .last) (l .loop .inv) _ (b .if2 .taken) (c .before .before .before .bucket2 .ensures)
-    (le-ltb _ _ (c .if3 .taken))
+    let i = l .loop .inv in
+    chained-stop below (xs s) noBucket _ (count s) (l .loop .k) (i .bucket) (i .chained) _ (b .if2 .taken) refl
+    (le-ltb (i .bucket .number) (getD (xs s) (l .loop .k) noBucket .number) (omega (arith, i .number, c .before .bucket-number2 .ensures, c .if3 .taken)))
 
 add-k : tie.Need-add-k Inv-loop μ-loop
 add-k c = search needs
@@ -65,17 +76,21 @@ loop-less c = search needs
 
 loop-again : tie.Need-loop-again Inv-loop μ-loop
 loop-again c =
-    let b = c .before .before .before .before in
+    let b = c .before .before in
     let l = b .before .before in
     let s = l .before .before .before .before .before in
-    chained-next below (xs s) noBucket _ (count s) (l .loop .k) (l .loop .last) (l .loop .inv) _ (b .if2 .taken) (c .before .before .before .bucket2 .ensures)
-    (lt-ltb _ _ (c .if3 .left))
+    let i = l .loop .inv in
+    record {
+      bucket = getD (xs s) (l .loop .k) noBucket;
+      number = c .before .bucket-number2 .ensures;
+      chained = chained-next below (xs s) noBucket _ (count s) (l .loop .k) (i .bucket) (i .chained) _ (b .if2 .taken) refl (lt-ltb (i .bucket .number) (getD (xs s) (l .loop .k) noBucket .number) (omega (arith, i .number, c .before .bucket-number2 .ensures, c .if3 .left)));
+    }
 
 returns-3 : tie.Need-returns-3 Inv-loop μ-loop
 returns-3 c =
     let l = c .before .before in
     let s = l .before .before .before .before .before in
-    chained-end below (xs s) noBucket _ (count s) (l .loop .k) (l .loop .last) (l .loop .inv) (c .if2 .left)
+    chained-end below (xs s) noBucket _ (count s) (l .loop .k) (l .loop .inv .bucket) (l .loop .inv .chained) (c .if2 .left)
 
 pub buckets-spec : {M : Type 1} → statement M
 buckets-spec =
@@ -84,9 +99,9 @@ buckets-spec =
     Inv-loop
     μ-loop
     returns
-    bucket-requires
+    bucket-number-requires
     loop-holds
-    bucket-requires-2
+    bucket-number-requires-2
     returns-2
     add-k
     loop-less
