@@ -97,7 +97,7 @@ returns c =
     let u = c .before .before in
     let i = u .before .before .before in
     let l = i .before in
-    let no = asked u ∙ ne-eqb _ _ (c .if1 .taken) in
+    let no = asked u ∙ ne-eqb (u .look-up .result) (getD (start l .args .sums .now) (u .before .before .bucket-number .result) 0) (λ e. omega (arith, e, c .if1 .taken)) in
     sym (every-stop (bucketAdds (m l)) (m l .buckets) (l .loop .k) noBucket (at i) no) ∙ l .loop .inv .1 ∙ whole l
 
 add-k : tie.Need-add-k Inv-loop μ-loop
@@ -111,7 +111,7 @@ loop-again c =
     let u = c .before .before in
     let i = u .before .before .before in
     let l = i .before in
-    let yes = asked u ∙ eq-eqb _ _ (c .if1 .left) in
+    let yes = asked u ∙ eq-eqb (u .look-up .result) (getD (start l .args .sums .now) (u .before .before .bucket-number .result) 0) (omega (arith, c .if1 .left)) in
     (search needs, every-next (bucketAdds (m l)) (m l .buckets) (l .loop .k) noBucket (at i) yes ∙ l .loop .inv .1)
 
 returns-2 : tie.Need-returns-2 Inv-loop μ-loop
