@@ -38,8 +38,8 @@ struct crush_placing {
  * The questions are put in this order, each to the whole map before the next. A refusal answers the number of the first one answered no:
  *
  *    1  Has the map 1 to 65,536 bytes, the last a newline, all others lower-case hexadecimal digits or newlines?
- *    2  Is each line of kind 00 to 05, at that kind's length? (An 02 has 18 digits: behind the type two are the
- *       bucket's kind, and eight its weight.)
+ *    2  Is each line of kind 00 to 05, at that kind's length? (An 02 has 18 digits; behind its type stand the bucket's kind, two, and its
+ *       weight, eight.)
  *    3  Is there one 00 first, then the 01s, 02s, 03s and 04s, and one 05 last?
  *    4  Does the 05 tell the number of lines before it?
  *    5  Is each field in its range, and 0 where unused? (A bucket's kind is 01, straw, or 02, tree.)
