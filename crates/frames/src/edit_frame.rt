@@ -1,4 +1,4 @@
-// The edit frame: what it asks for, the device it names, and the change written into the text.
+// The edit frame: what it asks for, the device it names, and the change written into the text, with the weights of the buckets.
 ghost use mathlib.Core.Path.{_≡_};
 ghost use Prim.Native.Nat.{_+_, _<_, _≤_};
 ghost use lib.ListN.{length, getD};

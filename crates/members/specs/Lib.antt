@@ -4,6 +4,7 @@ pub mod Levels
 pub mod Weights
 pub mod Present
 pub mod Once
+pub mod Totals
 pub mod Counts
 pub mod Sizes
 pub mod Sums

@@ -2,30 +2,28 @@
 -- weight of all devices beneath it. Assumes nothing.
 use mathlib.Core.Path.{_≡_, refl, sym, ap, _∙_, subst}
 use mathlib.Core.Bool.{Bool, true, false, cond, _&&_, false≢true}
-use mathlib.Core.List.{List, [], _∷_, _++_, map, map-map, map-append, append-nil, List·Memᴰ}
-use Prim.Native.Nat.{ℕ, zero, suc, _+_, _*_, _<_, _≤_}
+use mathlib.Core.List.{List, map, map-map, List·Memᴰ}
+use Prim.Native.Nat.{ℕ, zero, suc, _<_, _≤_}
 use native.Mathlib.Omega.{arith}
-use native.Mathlib.Numerals.{add-one}
 use lib.Dec.{eqb}
-use lib.ListN.{length, getD, set, take, length-set, length-append}
-use lib.Seq.{take-suc, take-all, length-take-le, getD-set-same, getD-set-other}
-use borrow.Author.Tests.{eqb-true, eqb-false, eq-eqb, leb-true, leb-false}
+use lib.ListN.{length, getD, take}
+use lib.Seq.{take-all}
+use borrow.Author.Tests.{eqb-true, eq-eqb, leb-true, leb-false}
 use Rattle.definitions.specs.declared.Bucket.{Bucket}
 use Rattle.definitions.specs.declared.Link.{Link}
-use Rattle.definitions.specs.Lists.{every, kept, sum}
+use Rattle.definitions.specs.Lists.{every, sum}
 use Rattle.definitions.specs.Map.{Map, isBucket, bucketItem, bucketNumber}
 use Rattle.definitions.specs.View.{childrenOf, typeOf, weightOf, weightsOf}
 use Rattle.definitions.specs.Load.{rising, hasDevice, hasBucket, hasItem, present, falling, summed}
-use Rattle.laws.specs.Lists.{both, every-at, every-by, kept-append}
+use Rattle.laws.specs.Lists.{both, every-at, every-by}
 use Rattle.laws.specs.Counting.{lookup-at, number-at}
 use Rattle.laws.specs.Members.{mem-every, map-ext}
 use Rattle.laws.specs.Loadable.{rising-is, present-is}
 use Rattle.laws.specs.Forest.{kidsOf, kids-bucket, kid-link, kid-falls, weight-device, weight-bucket}
-use Rattle.text.specs.Records.{noBucket, noLink}
-use Rattle.members.specs.Tables.{blank, blank-length, blank-at}
+use Rattle.text.specs.Records.{noBucket}
 use Rattle.members.specs.Levels.{lookedUp, bucket-item}
 use Rattle.members.specs.Weights.{bucketWritten, writtenOf, written-device, written-bucket, Weights}
-use Rattle.members.specs.Counts.{linksOf}
+use Rattle.members.specs.Totals.{linksOf, Totalled}
 
 -- what stands in the frames of the children of bucket b, added
 abbrev pub addedOf : Map → ℕ → ℕ
@@ -36,81 +34,21 @@ pub record Sums (m : Map) (r : List ℕ) : Type 0 where
   pub size : length r ≡ 256
   pub added : (b : ℕ) → b < 256 → getD r b 0 ≡ addedOf m b
 
--- ---- a loop that adds the links one by one
+-- a link adds what stands in its child's frame, which has 32 bits
+abbrev pub adds : Map → Link → ℕ
+adds m l = writtenOf m (l .child)
 
--- the table r has w of the children of each bucket, added, as far as these links have them; none of w is above 4,294,967,295
-pub record Added (w : ℕ → ℕ) (ls : List Link) (r : List ℕ) : Type 0 where
-  pub size : length r ≡ 256
-  pub added : (b : ℕ) → b < 256 → getD r b 0 ≡ sum (map (λ (l : Link). w (l .child)) (linksOf b ls))
-  pub most : (b : ℕ) → b < 256 → getD r b 0 ≤ length ls * 4294967295
+abbrev pub most : ℕ
+most = 4294967295
 
--- no link yet
-pub added-none : (w : ℕ → ℕ) → Added w [] (blank 256)
-unfolding kept sum
-added-none w = record { size = blank-length 256; added = λ b h. blank-at 256 b h; most = λ b h. omega (arith, blank-at 256 b h) }
-
-sum-last : (xs : List ℕ) (x : ℕ) → sum (xs ++ x ∷ []) ≡ sum xs + x
-unfolding sum
-sum-last [] x = omega arith
-sum-last (y ∷ ys) x = omega (arith, sum-last ys x)
-
--- one entry more, at the end
-kept-last : {A : Type 0} (p : A → Bool) (f : A → ℕ) (xs : List A) (x : A) (t : Bool) → p x ≡ t
-    → sum (map f (kept p (xs ++ x ∷ []))) ≡ sum (map f (kept p xs)) + cond t (f x) 0
-unfolding kept
-kept-last {A} p f xs x t e = ap (λ (l : List A). sum (map f l)) (kept-append p xs (x ∷ [])) ∙ go t e
-  where
-    go : (u : Bool) → p x ≡ u → sum (map f (kept p xs ++ kept p (x ∷ []))) ≡ sum (map f (kept p xs)) + cond u (f x) 0
-    go true q = rw (q, map-append f (kept p xs) (x ∷ [])) (sum-last (map f (kept p xs)) (f x))
-    go false q = rw (q, append-nil) (omega arith)
-
--- one link more, whose child's is v
-pub added-more : (w : ℕ → ℕ) (ls : List Link) (r : List ℕ) (k : ℕ) (l : Link) (v : ℕ) → Added w (take k ls) r → k < length ls → l ≡ getD ls k noLink → l .bucket ≤ 255
-    → v ≡ w (l .child) → v ≤ 4294967295 → Added w (take (k + 1) ls) (set r (l .bucket) (getD r (l .bucket) 0 + v))
-added-more w ls r k l v h q e b c s =
-    rw (add-one k, take-suc ls k noLink q, ← e)
-    (record { size = length-set r (l .bucket) (getD r (l .bucket) 0 + v) ∙ h .size; added = λ a n. each a n (eqb (l .bucket) a) refl; most = λ a n. few a n (eqb (l .bucket) a) refl })
-  where
-    f : Link → ℕ
-    f x = w (x .child)
-
-    last : (a : ℕ) (t : Bool) → eqb (l .bucket) a ≡ t → sum (map f (linksOf a (take k ls ++ l ∷ []))) ≡ sum (map f (linksOf a (take k ls))) + cond t (f l) 0
-    last a t i = kept-last (λ (n : Link). eqb (n .bucket) a) f (take k ls) l t i
-
-    here : getD (set r (l .bucket) (getD r (l .bucket) 0 + v)) (l .bucket) 0 ≡ getD r (l .bucket) 0 + v
-    here = getD-set-same r (l .bucket) (getD r (l .bucket) 0 + v) 0 (omega (arith, h .size))
-
-    other : (a : ℕ) → eqb (l .bucket) a ≡ false → getD (set r (l .bucket) (getD r (l .bucket) 0 + v)) a 0 ≡ getD r a 0
-    other a i = getD-set-other r (l .bucket) a (getD r (l .bucket) 0 + v) 0 (λ u. eqb-false (l .bucket) a i (sym u))
-
-    each : (a : ℕ) → a < 256 → (t : Bool) → eqb (l .bucket) a ≡ t
-        → getD (set r (l .bucket) (getD r (l .bucket) 0 + v)) a 0 ≡ sum (map f (linksOf a (take k ls ++ l ∷ [])))
-    each a n true i =
-        subst (λ (d : ℕ). getD (set r (l .bucket) (getD r (l .bucket) 0 + v)) d 0 ≡ sum (map f (linksOf d (take k ls ++ l ∷ [])))) (eqb-true (l .bucket) a i)
-        (omega (arith, here, h .added (l .bucket) (omega arith), last (l .bucket) true (eq-eqb (l .bucket) (l .bucket) refl), c))
-    each a n false i = omega (arith, other a i, h .added a n, last a false i)
-
-    long : length (take k ls ++ l ∷ []) ≡ length (take k ls) + 1
-    long = length-append (take k ls) (l ∷ [])
-
-    few : (a : ℕ) → a < 256 → (t : Bool) → eqb (l .bucket) a ≡ t → getD (set r (l .bucket) (getD r (l .bucket) 0 + v)) a 0 ≤ length (take k ls ++ l ∷ []) * 4294967295
-    few a n true i =
-        subst (λ (d : ℕ). getD (set r (l .bucket) (getD r (l .bucket) 0 + v)) d 0 ≤ length (take k ls ++ l ∷ []) * 4294967295) (eqb-true (l .bucket) a i)
-        (omega (arith, here, long, h .most (l .bucket) (omega arith), s))
-    few a n false i = omega (arith, other a i, long, h .most a n)
-
--- no sum is above so much for each link
-pub added-most : (w : ℕ → ℕ) (ls : List Link) (r : List ℕ) (k b : ℕ) → Added w (take k ls) r → k ≤ length ls → b ≤ 255 → getD r b 0 ≤ k * 4294967295
-added-most w ls r k b h q l = omega (arith, h .most b (omega arith), length-take-le k ls q)
-
--- all links
-pub added-all : (m : Map) (r : List ℕ) (k : ℕ) → Added (writtenOf m) (take k (m .links)) r → length (m .links) ≤ k → Sums m r
+-- all links are added
+pub sums-are : (m : Map) (r : List ℕ) (k : ℕ) → Totalled (adds m) most (take k (m .links)) r → length (m .links) ≤ k → Sums m r
 unfolding childrenOf
-added-all m r k h q =
+sums-are m r k h q =
     let t = rw (take-all k (m .links) q) at h in
     record {
       size = h .size;
-      added = λ b l. t .added b l ∙ ap sum (sym (map-map (writtenOf m) (λ (n : Link). n .child) (linksOf b (m .links))));
+      added = λ b l. t .total b l ∙ ap sum (sym (map-map (writtenOf m) (λ (n : Link). n .child) (linksOf b (m .links))));
     }
 
 -- ---- question 23

@@ -1,6 +1,7 @@
 -- `members::totals::totals_of` meets its contract: the first k links are counted and added, and no count is above k. Assumes nothing.
-use mathlib.Core.Path.{_≡_, _∙_}
+use mathlib.Core.Path.{_≡_, refl, _∙_}
 use Prim.Native.Nat.{_≤_, _<_, _-_}
+use native.Mathlib.Nat.{le-refl}
 use native.Mathlib.Omega.{arith}
 use lib.ListN.{length, take}
 use borrow.Author.Needs.{needs}
@@ -10,14 +11,15 @@ use Rattle.text.specs.Records.{shape-links}
 use Rattle.members.specs.Tables.{blank}
 use Rattle.members.specs.Levels.{link-in}
 use Rattle.members.specs.Weights.{writtenOf}
-use Rattle.members.specs.Counts.{Tallied, tallied-none, tallied-more, tallied-most, tallied-all, links-few}
-use Rattle.members.specs.Sums.{Added, added-none, added-more, added-most, added-all}
+use Rattle.members.specs.Totals.{Totalled, totalled-none, totalled-more, totalled-most, links-few}
+use Rattle.members.specs.Counts.{counted, counts-are}
+use Rattle.members.specs.Sums.{adds, most, sums-are}
 use Rattle.members.proofs.totals.totals_of.Statement.{statement}
 use Rattle.members.proofs.totals.totals_of.Tie as tie
 
 abbrev Inv-loop : tie.InvT-loop
 Inv-loop t s weights n counts₀ sums₀ k₀ counts sums k =
-    (k ≤ n) × Tallied (take k (mapOf t .links)) counts × Added (writtenOf (mapOf t)) (take k (mapOf t .links)) sums
+    (k ≤ n) × Totalled counted 1 (take k (mapOf t .links)) counts × Totalled (adds (mapOf t)) most (take k (mapOf t .links)) sums
 
 abbrev μ-loop : tie.MeasureT-loop
 μ-loop t s weights n counts₀ sums₀ k₀ counts sums k = n - k
@@ -42,7 +44,7 @@ here c =
 
 loop-holds : tie.Need-loop-holds Inv-loop μ-loop
 unfolding blank
-loop-holds c = (search needs, tallied-none, added-none (writtenOf (mapOf (c .before .before .args .t .now))))
+loop-holds c = (search needs, totalled-none counted 1, totalled-none (adds (mapOf (c .before .before .args .t .now))) most)
 
 link-requires : tie.Need-link-requires Inv-loop μ-loop
 link-requires c κs = let s = start (c .before) in (s .pre .0 .0, s .pre .0 .1, at c)
@@ -79,7 +81,7 @@ add-counts : tie.Need-add-counts Inv-loop μ-loop
 add-counts c =
     let i = link c .before in
     let l = i .before in
-    omega (arith, tallied-most (mapOf (start l .args .t .now) .links) (l .loop .counts) (l .loop .k) (link c .link .result .bucket) (l .loop .inv .1) (omega (arith, at i)) (here (link c) .bucket), few c)
+    omega (arith, totalled-most counted 1 (mapOf (start l .args .t .now) .links) (l .loop .counts) (l .loop .k) (link c .link .result .bucket) (l .loop .inv .1) (omega (arith, at i)) (here (link c) .bucket), few c)
 
 mul-counts-2 : tie.Need-mul-counts-2 Inv-loop μ-loop
 mul-counts-2 c = omega (arith, here (link c) .bucket)
@@ -111,7 +113,7 @@ add-sums : tie.Need-add-sums Inv-loop μ-loop
 add-sums c =
     let i = link c .before in
     let l = i .before in
-    omega (arith, added-most (writtenOf (mapOf (start l .args .t .now))) (mapOf (start l .args .t .now) .links) (l .loop .sums) (l .loop .k) (link c .link .result .bucket) (l .loop .inv .2) (omega (arith, at i)) (here (link c) .bucket), few c, small c)
+    omega (arith, totalled-most (adds (mapOf (start l .args .t .now))) most (mapOf (start l .args .t .now) .links) (l .loop .sums) (l .loop .k) (link c .link .result .bucket) (l .loop .inv .2) (omega (arith, at i)) (here (link c) .bucket), few c, small c)
 
 array-write-sums : tie.Need-array-write-sums Inv-loop μ-loop
 array-write-sums c = omega (arith, here (link c) .bucket)
@@ -128,8 +130,8 @@ loop-again c =
     let l = n .before .before in
     let m = mapOf (start l .args .t .now) in (
       search needs,
-      tallied-more (m .links) (l .loop .counts) (l .loop .k) (n .link .result) (l .loop .inv .1) (at (n .before)) (n .link .ensures) (here n .bucket),
-      added-more (writtenOf m) (m .links) (l .loop .sums) (l .loop .k) (n .link .result) _ (l .loop .inv .2) (at (n .before)) (n .link .ensures) (here n .bucket) (weight c) (small c),
+      totalled-more counted 1 (m .links) (l .loop .counts) (l .loop .k) (n .link .result) 1 (l .loop .inv .1) (at (n .before)) (n .link .ensures) (here n .bucket) refl (le-refl 1),
+      totalled-more (adds m) most (m .links) (l .loop .sums) (l .loop .k) (n .link .result) _ (l .loop .inv .2) (at (n .before)) (n .link .ensures) (here n .bucket) (weight c) (small c),
     )
 
 returns : tie.Need-returns Inv-loop μ-loop
@@ -138,7 +140,7 @@ returns c =
     let s = start l in
     let m = mapOf (s .args .t .now) in
     let e : length (m .links) ≤ l .loop .k = omega (arith, c .loop-test .left, count s) in
-    (tallied-all m (l .loop .counts) (l .loop .k) (l .loop .inv .1) e, added-all m (l .loop .sums) (l .loop .k) (l .loop .inv .2) e)
+    (counts-are m (l .loop .counts) (l .loop .k) (l .loop .inv .1) e, sums-are m (l .loop .sums) (l .loop .k) (l .loop .inv .2) e)
 
 pub totals-of-spec : {M : Type 1} → statement M
 totals-of-spec =
