@@ -108,6 +108,18 @@ static uint32_t edit_once(struct pair *best, const char *frame) {
     return x.moves;
 }
 
+/* The ceiling of what an edit of a drive's acceptance moves. */
+static void ceiling_once(struct pair *best, uint32_t drive) {
+    double a = now();
+    struct crush_limit x = crush_ceiling(map, len, table, PLACES, drive);
+    double b = now();
+    struct plain_limit y = plain_ceiling(map, len, table, PLACES, drive);
+    double c = now();
+    expect(x.number == 0 && y.number == 0 && x.groups == y.groups && x.moves == y.moves, "ceiling");
+    keep_least(&best->engine, b - a);
+    keep_least(&best->plain, c - b);
+}
+
 /* Hashes in a chain, so that none begins before the one ahead of it has ended. */
 static void hash_once(struct pair *best) {
     uint32_t x = 0, y = 0;
@@ -171,7 +183,7 @@ static void take_map(const char *path) {
 }
 
 int main(int argc, char **argv) {
-    struct pair load = {0, 0}, place = {0, 0}, fill = {0, 0}, hash = {0, 0};
+    struct pair load = {0, 0}, place = {0, 0}, fill = {0, 0}, ceiling = {0, 0}, hash = {0, 0};
     if (argc != 4 || (strcmp(argv[1], "fill") != 0 && strcmp(argv[1], "all") != 0)) {
         fprintf(stderr, "usage: bench fill|all MAP ROUNDS\n");
         return 2;
@@ -197,6 +209,9 @@ int main(int argc, char **argv) {
     uint32_t drive = table[0];
     expect(drive < 1024, "fill: group 0 begins with a drive");
     uint32_t weight = weight_of(drive);
+    for (int i = 0; i < rounds; i++)
+        ceiling_once(&ceiling, drive);
+    print_pair("ceiling", ceiling, 1);
     edits("acceptance", rounds, 0x21, drive, 0, 0x10000, &fill);
     edits("weight", rounds, 0x22, drive, weight / 2, weight, &fill);
     print_pair("fill", fill, 1);

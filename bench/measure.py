@@ -43,20 +43,20 @@ def print_table(rows):
 def main():
     folder, rounds = pathlib.Path(sys.argv[1]), int(sys.argv[2])
     over = False
-    ratios = [["plain C / engine", "load", "place", "fill", "fill*", "edit 21", "edit 22", "hash"]]
-    times = [["the engine's own times", "load", "place", "fill", "edit 21", "edit 22", "hash"]]
-    fills = [["edit / fill in the engine", "edit 21", "edit 22", "moves 21", "moves 22"]]
+    ratios = [["plain C / engine", "load", "place", "fill", "fill*", "edit 21", "edit 22", "ceiling", "hash"]]
+    times = [["the engine's own times", "load", "place", "fill", "edit 21", "edit 22", "ceiling", "hash"]]
+    fills = [["in fills of the engine", "edit 21", "edit 22", "ceiling", "moves 21", "moves 22"]]
     for name, title, text in [*maps.COMPARED, maps.BLOCKS]:
         got = run(folder, ["bench", "all"], name, text(), rounds)
-        columns = [got[call] for call in ("load", "place", "fill", "acceptance", "weight", "hash")]
+        columns = [got[call] for call in ("load", "place", "fill", "acceptance", "weight", "ceiling", "hash")]
         ratios.append([title] + [ratio(pair) for pair in columns])
         branchless = run(folder, ["bench-branchless", "fill"], name, text(), rounds)["fill"]
         ratios[-1].insert(4, ratio(branchless))
         times.append([title] + [time_of(pair[0]) for pair in columns])
-        share = [got[call][0] / got["fill"][0] for call in ("acceptance", "weight")]
+        share = [got[call][0] / got["fill"][0] for call in ("acceptance", "weight", "ceiling")]
         moves = [got[call][0] / got[call][1] for call in ("moves-acceptance", "moves-weight")]
         fills.append([title] + [f"{x:.2f}" for x in share] + [f"{x:.1f}" for x in moves])
-        over = over or max(share) > BUDGET
+        over = over or max(share[:2]) > BUDGET
     print_table(ratios)
     print("fill*: plain C that takes the digits of the logarithm without a branch, as the engine does; 21 is acceptance, 22 weight\n")
     for rows in (times, fills):

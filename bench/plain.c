@@ -1,4 +1,4 @@
-/* Document 01, with changes 1 to 6 of document 02, in plain C, sentence by sentence: what the engine is measured against. */
+/* Document 01, with changes 1 to 7 of document 02, in plain C, sentence by sentence: what the engine is measured against. */
 #include "plain.h"
 
 #include <stdlib.h>
@@ -768,6 +768,48 @@ struct plain_made plain_edit(uint8_t *text, size_t len, uint16_t *table, size_t 
     put_field(text + m.line[device] + (weight ? 6 : 14), 8, value);
     write_weights(&m, text);
     r.moves = moves;
+    return r;
+}
+
+/* How many rows of the table have the device. */
+static uint32_t holders(const struct map *m, const uint16_t *table, uint32_t device) {
+    uint32_t count = 0;
+    for (uint32_t g = 0; g < m->groups; g++)
+        for (uint32_t i = 0; i < m->width; i++)
+            if (table[(size_t)g * m->width + i] == device) {
+                count++;
+                break;
+            }
+    return count;
+}
+
+struct plain_limit plain_ceiling(const uint8_t *text, size_t len, const uint16_t *table, size_t table_len, uint32_t device) {
+    static struct map m;
+    struct plain_limit r = {0, 0, 0};
+    if (read_map(&m, text, len) != 0) {
+        r.number = 14;
+        return r;
+    }
+    size_t places = (size_t)m.groups * m.width;
+    if (table_len < places)
+        r.number = 16;
+    else if (!independent(&m))
+        r.number = 17;
+    else if (device >= DEVICES || !m.device[device])
+        r.number = 18;
+    if (r.number != 0)
+        return r;
+    uint16_t *fresh = malloc(places * sizeof *fresh);
+    if (fresh == NULL)
+        abort();
+    fill_rows(&m, fresh);
+    if (memcmp(fresh, table, places * sizeof *fresh) != 0) {
+        r.number = 19;
+    } else {
+        r.groups = holders(&m, table, device);
+        r.moves = m.width * r.groups;
+    }
+    free(fresh);
     return r;
 }
 

@@ -1,11 +1,11 @@
-/* Calls crush_place and crush_day_group on the vectors in two files and compares each answer; around every buffer stand canaries. */
+/* Calls crush_place, crush_day_group and crush_ceiling on the vectors in three files and compares each answer; around every buffer stand canaries. */
 #include "../include/crush_place.h"
 
 #include <stdio.h>
 #include <stdlib.h>
 #include <string.h>
 
-enum { CANARY = 64, MOST = 70000 };
+enum { CANARY = 64, MOST = 70000, PLACES = 4000 };
 
 static int digit(int c) { return c <= '9' ? c - '0' : c - 'a' + 10; }
 
@@ -19,7 +19,7 @@ static size_t bytes_of(const char *word, uint8_t *to) {
     return n;
 }
 
-/* A buffer of n bytes with canaries on both sides. */
+/* A buffer of n bytes with canaries on both sides. It is aligned as those of malloc are, of whose alignment CANARY is a multiple. */
 static uint8_t *guarded(size_t n, uint8_t fill) {
     uint8_t *p = malloc(n + 2 * CANARY);
     if (p == NULL)
@@ -36,8 +36,9 @@ static int intact(const uint8_t *p, size_t n) {
     return 1;
 }
 
-static char text[2 * MOST + 512], map_word[2 * MOST + 2], out_word[512];
-static uint8_t map_bytes[MOST], expected[256];
+static char text[2 * MOST + 4 * PLACES + 512], map_word[2 * MOST + 2], out_word[512], table_word[4 * PLACES + 2];
+static uint8_t map_bytes[MOST], expected[256], table_bytes[2 * PLACES];
+static uint16_t table_places[PLACES];
 static unsigned long calls, wrong;
 
 static FILE *opened(const char *name) {
@@ -102,14 +103,44 @@ static void days_all(const char *name) {
     fclose(f);
 }
 
+static void ceilings_all(const char *name) {
+    FILE *f = opened(name);
+    while (fgets(text, sizeof text, f) != NULL) {
+        unsigned long device, number, groups, moves;
+        if (sscanf(text, "%140001s %16001s %lu %lu %lu %lu", map_word, table_word, &device, &number, &groups, &moves) != 6)
+            bad_line();
+        size_t n = bytes_of(map_word, map_bytes), places = bytes_of(table_word, table_bytes) / 2;
+        for (size_t i = 0; i < places; i++)
+            table_places[i] = (uint16_t)(table_bytes[2 * i] * 256 + table_bytes[2 * i + 1]);
+        uint8_t *map = guarded(n, 0), *table = guarded(2 * places, 0);
+        memcpy(map, map_bytes, n);
+        memcpy(table, table_places, 2 * places);
+        struct crush_limit r = crush_ceiling(map, n, (const uint16_t *)table, places, (uint32_t)device);
+        int ok = r.number == number && r.groups == groups && r.moves == moves;
+        ok = ok && memcmp(map, map_bytes, n) == 0 && memcmp(table, table_places, 2 * places) == 0;
+        ok = ok && intact(map, n) && intact(table, 2 * places);
+        calls++;
+        if (!ok) {
+            wrong++;
+            fprintf(stderr, "call %lu: got %u %u %u, expected %lu %lu %lu\n", calls, r.number, r.groups, r.moves, number, groups, moves);
+        }
+        free(map - CANARY);
+        free(table - CANARY);
+    }
+    fclose(f);
+}
+
 int main(int argc, char **argv) {
-    if (argc != 3) {
-        fprintf(stderr, "usage: crush_place_test PLACES DAYS\n");
+    if (argc != 4) {
+        fprintf(stderr, "usage: crush_place_test PLACES DAYS CEILINGS\n");
         return 2;
     }
     place_all(argv[1]);
     unsigned long placed = calls;
     days_all(argv[2]);
-    printf("%lu calls, %lu of them of days, %lu wrong\n", calls, calls - placed, wrong);
-    return wrong == 0 && placed > 0 && calls > placed ? 0 : 1;
+    unsigned long days = calls - placed;
+    ceilings_all(argv[3]);
+    unsigned long ceilings = calls - placed - days;
+    printf("%lu calls, %lu of them of days, %lu of ceilings, %lu wrong\n", calls, days, ceilings, wrong);
+    return wrong == 0 && placed > 0 && days > 0 && ceilings > 0 ? 0 : 1;
 }

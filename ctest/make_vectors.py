@@ -1,15 +1,17 @@
 #!/usr/bin/env python3
-"""Writes vectors.txt, days.txt and hashes.txt: calls of the engine, and what a CRUSH by another hand answers or does.
+"""Writes vectors.txt, days.txt, ceilings.txt and hashes.txt: calls of the engine, and what a CRUSH by another hand answers or does.
 
 usage: make_vectors.py --oracle DIR [--level L] > vectors.txt
        make_vectors.py --oracle DIR [--level L] --days > days.txt
+       make_vectors.py --oracle DIR [--level L] --ceilings > ceilings.txt
        make_vectors.py --oracle DIR [--level L] --hashes > hashes.txt
 
-DIR holds the reference: crush.py, fill.py and gen.py; L is the last change of document 02 that counts. In vectors.txt and days.txt a line is a
-call: the map's bytes in hexadecimal (or - for none); then of crush_place the group, the size of the space, and the answer: number, places,
-tries, and the bytes written in hexadecimal (or -); of crush_day_group the show, the day, and the answer: number and group. hashes.txt has the
-lines of each map and behind them its calls (place, fill and edit), each with how many of the tests of a device that are made for it meet an
-acceptance other than 65,536 and 0.
+DIR holds the reference: crush.py, fill.py and gen.py; L is the last change of document 02 that counts. In vectors.txt, days.txt and ceilings.txt a
+line is a call: the map's bytes in hexadecimal (or - for none); then of crush_place the group, the size of the space, and the answer: number, places,
+tries, and the bytes written in hexadecimal (or -); of crush_day_group the show, the day, and the answer: number and group; of crush_ceiling the
+table, four hexadecimal digits a place (or - for none), the drive, and the answer: number, groups and moves. hashes.txt has the lines of each map and
+behind them its calls (place, fill and edit), each with how many of the tests of a device that are made for it meet an acceptance other than 65,536
+and 0.
 """
 import argparse
 import os
@@ -21,10 +23,12 @@ ap = argparse.ArgumentParser()
 ap.add_argument('--oracle', required=True)
 ap.add_argument('--level', type=int, default=6)
 ap.add_argument('--days', action='store_true')
+ap.add_argument('--ceilings', action='store_true')
 ap.add_argument('--hashes', action='store_true')
 ARGS = ap.parse_args()
 sys.path[:0] = [ARGS.oracle, os.path.join(os.path.dirname(os.path.abspath(__file__)), '..', 'tools')]
 import blocks  # noqa: E402
+import ceilings  # noqa: E402
 import crush  # noqa: E402
 import fill   # noqa: E402
 import gen    # noqa: E402
@@ -115,6 +119,29 @@ def days():
             print(data.hex() or '-', show, day, number, group)
 
 
+def ceiling(frames, table, drive):
+    answer = ceilings.answer(crush, ARGS.level, frames, table, drive)
+    print(frames.hex() or '-', ''.join(f'{place:04x}' for place in table) or '-', drive, *answer)
+
+
+def limits():
+    rng = random.Random(7)
+    made = [(data, crush.load(data, ARGS.level)) for data in sharing(10, 3)]
+    made += [(data, mp) for _, data, mp in maps(40, 640)]
+    for i, (data, mp) in enumerate(made):
+        if isinstance(mp, int):
+            # of the generator's damaged maps a few, since `refused` makes some too
+            if i % 6 == 0:
+                ceiling(data, [0, crush.HOLE], 0)
+        elif mp.G * mp.W <= 60:
+            calls = list(ceilings.right(crush, rng, mp))
+            # with a first-n select all of these are refused alike
+            if any(step[0] == crush.FIRSTN for step in mp.steps):
+                del calls[1:]
+            for _, *call in calls + rng.sample(list(ceilings.refused(crush, rng, mp)), 2):
+                ceiling(*call)
+
+
 def accepting(rng, data, values):
     """The bytes of a map with one of the values for each drive's acceptance."""
     lines = data.decode().splitlines(keepends=True)
@@ -158,4 +185,4 @@ def hashes():
         hashes_of(rng, accepting(rng, data, (65536, 65536, 65536, 0, 1, 32768, 65535)))
 
 
-hashes() if ARGS.hashes else days() if ARGS.days else places()
+hashes() if ARGS.hashes else limits() if ARGS.ceilings else days() if ARGS.days else places()

@@ -1,5 +1,5 @@
-/* Places a group by the deepest map there can be, 255 buckets one in another, in a thread with the stack that crush_place.h asks for: by a select
- * down to the drive, and through the outermost and the innermost bucket below the one taken. */
+/* Places a group by the deepest map there can be, 255 buckets one in another, and asks for its drive's ceiling, in a thread with the stack that
+ * crush_place.h asks for: by a select down to the drive, and through the outermost and the innermost bucket below the one taken. */
 #include "../include/crush_place.h"
 
 #include <pthread.h>
@@ -34,25 +34,36 @@ static void write_map(unsigned step, unsigned type) {
     line("05%04x\n", lines, 0, 0);
 }
 
-static void *place(void *answer) {
+struct answers {
+    struct crush_placing placing;
+    struct crush_limit limit;
+};
+
+static void *call(void *to) {
+    struct answers *answer = to;
     uint8_t out[CRUSH_PLACE_MOST];
-    *(struct crush_placing *)answer = crush_place((const uint8_t *)map, len, 0, out, sizeof out);
-    return out[0] == 0 && out[1] == 0 ? answer : NULL;
+    uint16_t table[] = {0};
+    answer->placing = crush_place((const uint8_t *)map, len, 0, out, sizeof out);
+    answer->limit = crush_ceiling((const uint8_t *)map, len, table, 1, 0);
+    return out[0] == 0 && out[1] == 0 ? to : NULL;
 }
 
-static int is_placed(unsigned step, unsigned type, unsigned tries) {
-    struct crush_placing answer = {0, 0, 0};
+static int is_answered(unsigned step, unsigned type, unsigned tries) {
+    struct answers answer = {{0, 0, 0}, {0, 0, 0}};
     pthread_attr_t attributes;
     pthread_t thread;
     void *right = NULL;
     write_map(step, type);
     if (pthread_attr_init(&attributes) != 0 || pthread_attr_setstacksize(&attributes, CRUSH_PLACE_STACK) != 0)
         exit(2);
-    if (pthread_create(&thread, &attributes, place, &answer) != 0 || pthread_join(thread, &right) != 0)
+    if (pthread_create(&thread, &attributes, call, &answer) != 0 || pthread_join(thread, &right) != 0)
         exit(2);
-    printf("%d levels in %d bytes of stack, step %u of type %u: number %u, %u places, %u tries\n", LEVELS, CRUSH_PLACE_STACK, step, type,
-           (unsigned)answer.number, (unsigned)answer.places, (unsigned)answer.tries);
-    return right != NULL && answer.number == 0 && answer.places == 1 && answer.tries == tries;
+    struct crush_placing p = answer.placing;
+    struct crush_limit l = answer.limit;
+    printf("%d levels in %d bytes of stack, step %u of type %u: number %u, %u places, %u tries; ceiling: number %u, %u groups, %u moves\n", LEVELS,
+           CRUSH_PLACE_STACK, step, type, (unsigned)p.number, (unsigned)p.places, (unsigned)p.tries, (unsigned)l.number, (unsigned)l.groups,
+           (unsigned)l.moves);
+    return right != NULL && p.number == 0 && p.places == 1 && p.tries == tries && l.number == 0 && l.groups == 1 && l.moves == 1;
 }
 
-int main(void) { return is_placed(3, 0, 1) && is_placed(5, LEVELS - 1, 2) && is_placed(5, 1, 2) ? 0 : 1; }
+int main(void) { return is_answered(3, 0, 1) && is_answered(5, LEVELS - 1, 2) && is_answered(5, 1, 2) ? 0 : 1; }

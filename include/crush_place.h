@@ -90,6 +90,35 @@ struct crush_day {
  */
 struct crush_day crush_day_group(const uint8_t *map, size_t map_len, uint32_t show, uint32_t day);
 
+/* What the question for a ceiling answers. */
+struct crush_limit {
+    uint32_t number; /* 0, or the number of the first question answered no: see below */
+    uint32_t groups; /* how many groups have the drive in their list, each counted once; or 0 on a refusal */
+    uint32_t moves;  /* W times as many: an edit moves no more places; or 0 on a refusal */
+};
+
+/*
+ * How many places an edit of a drive's acceptance moves at most, before it is made. Lowering it, to 0 for a dead drive, moves places only in groups
+ * that have the drive in their list: ask with the map and the table as they are. Raising it moves places only in groups that have it afterwards: what
+ * the map and the table after the edit answer is the ceiling of that edit. Of an edit of a weight this says nothing.
+ *
+ *   table      the table that belongs to the map: the W places of group 0, then those of group 1, and so on to the last; each is the number of a
+ *              drive or CRUSH_PLACE_HOLE, a 16-bit number as the machine has them. It is only read, and needs the alignment of uint16_t.
+ *   table_len  how many places (not bytes) it has. What lies beyond the places of the last group is not looked at.
+ *   device     the number of the drive.
+ *
+ * The questions are those that an edit of the drive is asked, but for its value and its space for moves:
+ *
+ *   14  Is the map one that crush_place takes?
+ *   16  Has the table the W places of each group?
+ *   17  Has the map no first-n select?
+ *   18  Is the drive one of the map's?
+ *   19  Is the table what the map gives, place by place?
+ *
+ * Of threads and of what may overlap the same holds as for crush_place. A call takes the time of placing each group once.
+ */
+struct crush_limit crush_ceiling(const uint8_t *map, size_t map_len, const uint16_t *table, size_t table_len, uint32_t device);
+
 #ifdef __cplusplus
 }
 #endif

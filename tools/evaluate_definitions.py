@@ -3,7 +3,7 @@
 
 usage: evaluate_definitions.py --oracle DIR [--level L] [--seed N] [--maps N] [--edits N] [--damaged N] [--walks N]
                 [--leaves N] [--ties N] [--through N] [--trees N]
-                [--blocks N] [--weights N] [--keys N] [--per N]
+                [--blocks N] [--weights N] [--ceilings N] [--keys N] [--per N]
                 [--crate DIR] [--keep] [--wrong] [--verbose] [--giving-up]
 
 DIR holds the reference: crush.py, fill.py and gen.py.
@@ -35,6 +35,10 @@ them, in a scratch repository outside this one.  Prints how many held.
   --weights  nested maps: load's number, also where weights are written that
              are not the sums, alone and with an earlier question answered no;
              edits put in: the map, and its text
+  --ceilings maps, of four one with a hole, one with a step 5 and one with a
+             first-n select: the ceiling for drives that are held and for one
+             that is not, also with a longer table; refusals by each question,
+             alone and with later ones
   --giving-up  besides, two placings: one live drive in one cabinet, 2 tries;
              one dead drive, 2,550 tries, in fifty equations of a turn each
   --level    the last change of document 02 that counts
@@ -61,8 +65,8 @@ CRATE = os.path.join(HERE, '..', 'crates', 'definitions')
 ap = argparse.ArgumentParser()
 for name, value in (('seed', 1), ('maps', 4), ('edits', 2), ('damaged', 6),
                     ('walks', 1), ('leaves', 5), ('ties', 0), ('through', 4),
-                    ('trees', 10), ('blocks', 4), ('weights', 8), ('keys', 500),
-                    ('per', 60), ('level', 6)):
+                    ('trees', 10), ('blocks', 4), ('weights', 8), ('ceilings', 4),
+                    ('keys', 500), ('per', 60), ('level', 6)):
     ap.add_argument('--' + name, type=int, default=value)
 ap.add_argument('--oracle', required=True)
 ap.add_argument('--crate', default=CRATE)
@@ -75,6 +79,7 @@ CRATE = os.path.abspath(ARGS.crate)
 
 sys.path.insert(0, ARGS.oracle)
 import blocks  # noqa: E402
+import ceilings  # noqa: E402
 import crush  # noqa: E402
 import fill   # noqa: E402
 import gen    # noqa: E402
@@ -115,7 +120,7 @@ use %(of)sSelect.{Place}
 use %(of)sRule.{placedOf}
 use %(of)sEdit.{put}
 use %(of)sWriting.{mapText}
-use %(of)sCalls.{loadOf, placeOf, daemonOf, fillOf, editOf, writeOf, dayOf}
+use %(of)sCalls.{loadOf, placeOf, daemonOf, fillOf, editOf, ceilingOf, writeOf, dayOf}
 use %(of)sOpen.{computing}
 %(more)s
 -- the k bytes that a number spells, highest first
@@ -863,6 +868,45 @@ def weight_maps(ths, count):
                  ' '.join('%d: %d' % c for c in sorted(deep.items())), others))
 
 
+# -------------------------------------------------------------- ceilings
+
+def ceiling_maps(ths, count):
+    seed, done = ARGS.seed * 100000, 0
+    numbers_seen, counted = {}, {}
+    while done < count:
+        seed += 1
+        rng, d = small_doc(seed, done % 4 != 3)
+        mp = loaded(d.bytes())
+        keys, dead = runs_cost(mp)
+        # of four maps one has a hole, one a step 5 and one a first-n select
+        wanted = (True, crush.HOLE in crush.fresh_fill(mp), goes_through(mp),
+                  True)[done % 4]
+        # all groups are placed once, by an edit twice
+        if keys > ARGS.keys // 2 or not wanted:
+            continue
+        done += 1
+        for what, frames, table, drive in (*ceilings.right(crush, rng, mp),
+                                           *ceilings.refused(crush, rng, mp)):
+            number, groups, moves = ceilings.answer(crush, ARGS.level, frames,
+                                                    table, drive)
+            numbers_seen[number] = numbers_seen.get(number, 0) + 1
+            if not number:
+                counted[groups] = counted.get(groups, 0) + 1
+            ths.add('ceiling', 'seed %d %s, %d keys' % (seed, what, keys),
+                    'ceilingOf %s %s %d' % (text(frames), numbers(table),
+                                            drive),
+                    'record { number = %d; groups = %d; moves = %d }'
+                    % (number, groups, moves), keys,
+                    None if number == 14 else mp,
+                    dead if number in (0, 19) else 0)
+    if count:
+        print('ceilings: %d maps, numbers: %s; good calls by the number of '
+              'groups that hold the drive: %s'
+              % (count,
+                 ' '.join('%d: %d' % c for c in sorted(numbers_seen.items())),
+                 ' '.join('%d: %d' % c for c in sorted(counted.items()))))
+
+
 # ------------------------------------------------------------- giving up
 
 def one_cabinet(acceptance):
@@ -1061,6 +1105,7 @@ def main():
         block_maps(ths, ARGS.blocks)
     if ARGS.level >= crush.WRITTEN_WEIGHTS:
         weight_maps(ths, ARGS.weights)
+    ceiling_maps(ths, ARGS.ceilings)
     if ARGS.giving_up:
         giving_up(root)
     sys.exit(run(ths, root))

@@ -2,23 +2,30 @@
 """Makes the cases of program `vectors` anew: maps with edits, and what a CRUSH by another hand gives for them.
 
 make_vectors.py --oracle DIR [--level L]: DIR holds that CRUSH as crush.py, fill.py and gen.py; L is the last change of document 02 that counts.
-Writes crates/vectors/data/cases and crates/vectors/stdout. A case is a line of five numbers of eight digits, then the bytes of the map, of the edits and of the answer: the numbers are these three lengths,
-the groups and the width (0 and 0 of a refused map). The answer is a refusal; or each row, behind those of the groups below 64 a frame `12`
-with the tries (8), then what each edit prints and the map that is left. What is printed are the answers by kind of case; of the maps with a
-step 5, of those with a tree and of those with blocks over common drives how many there are and how many of them are filled and edited; the moves,
-by cause, whose cause stands in an inner walk, and those whose cause stands at a draw in a tree or in a straw bucket, or at one that finds none in
-one of the runs: of a 03 that of the place where following it ends; the numbers of children that trees have; of the maps with blocks over common
-drives those whose table change 5 alters, those with an inner walk that goes on below its item or meets held drives only, and the moves by a 03
-whose drive an earlier block holds, in the run before the edit or in the one after it; the maps refused with 23, and the edits of a weight
-that were taken, by the number of buckets above the drive."""
+Writes crates/vectors/data/cases and crates/vectors/stdout. A case is a line of five numbers of eight digits, then the bytes of the map, of the
+edits and of the answer: the numbers are these three lengths, the groups and the width (0 and 0 of a refused map). The answer is a refusal; or each
+row, behind those of the groups below 64 a frame `12` with the tries (8), then what each edit prints and the map that is left. The second line of
+stdout is of change 7: of the edits of an acceptance that are taken, how many move more places than W for each group whose list holds the drive, in
+the table before the edit or, where the acceptance is raised, in the one after it; all their moves and all these ceilings; and the edit whose moves
+come nearest to its ceiling, with the number of its case, from 1; of those that come as near the one with the widest lists, then with most moves.
+
+What is printed are the answers by kind of case; of the maps with a step 5, of those with a tree and of those with blocks over common drives how
+many there are and how many of them are filled and edited; the moves, by cause, whose cause stands in an inner walk, and those whose cause stands at
+a draw in a tree or in a straw bucket, or at one that finds none in one of the runs: of a 03 that of the place where following it ends; the numbers
+of children that trees have; of the maps with blocks over common drives those whose table change 5 alters, those with an inner walk that goes on
+below its item or meets held drives only, and the moves by a 03 whose drive an earlier block holds, in the run before the edit or in the one after
+it; the maps refused with 23, and the edits of a weight that were taken, by the number of buckets above the drive; and the edits of an acceptance
+that were taken, those that reach their ceiling, and those whose drive no group holds."""
 import argparse
 import collections
+import fractions
 import itertools
 import pathlib
 import random
 import sys
 
 import blocks
+import ceilings
 import weights
 
 CRATE = pathlib.Path(__file__).resolve().parent.parent / "crates" / "vectors"
@@ -72,9 +79,16 @@ def orders():
         yield text(lines + [f"05{len(lines):04x}"])
 
 
-def answer_of(reference, crush, level, frames, edits, seen, taken):
+def ceiling_of(mp, before, after, device, acceptance):
+    """How many places an edit of an acceptance moves at most, the width, and which way it goes; the tables are those before and after it."""
+    was = mp.devices[device][1]
+    ceiling = mp.W * ceilings.holders(mp, before if acceptance <= was else after, device)
+    return ceiling, mp.W, "lowered" if acceptance < was else "raised" if acceptance > was else "unchanged"
+
+
+def answer_of(reference, crush, level, frames, edits, seen, taken, limited):
     """The answer, the groups and the width; of the moves seen, those of a refused edit are left out. For each edit of a weight that is
-    taken, the number of buckets above its drive is added to taken."""
+    taken, the number of buckets above its drive is added to taken; for each of an acceptance, its moves, ceiling, width and way to limited."""
     mp = crush.load(frames, level)
     if isinstance(mp, int):
         return reference.refusal(mp), 0, 0
@@ -99,10 +113,13 @@ def answer_of(reference, crush, level, frames, edits, seen, taken):
             del seen[before:]
             out.append(reference.refusal(edited.number))
             continue
+        kind, device, value = crush.edit_form(line)
+        if kind == "21":
+            limited.append((edited.count(), *ceiling_of(mp, table, edited.table, device, value)))
         mp, table = edited.map, edited.table
         out.append(edited.bytes())
-        if line.startswith(b"22"):
-            taken.append(weights.buckets_above(mp, int(line[2:6], 16)))
+        if kind == "22":
+            taken.append(weights.buckets_above(mp, device))
     out.append(crush.map_bytes(mp))
     return b"".join(out), groups, w
 
@@ -220,6 +237,20 @@ def stands_at(crush, old, new, mp):
     return kind + (", none in one run" if None in (old.winner, new.winner) else "")
 
 
+def told_of_ceilings(limits):
+    """The second line of the program's output: of edits with the moves, the ceiling, the width, the way and the case of each."""
+    above = sum(moves > ceiling for moves, ceiling, *_ in limits)
+    held = [limit for limit in limits if limit[1] > 0]
+
+    def tightness(limit):
+        moves, ceiling, width, *_ = limit
+        return fractions.Fraction(moves, ceiling), width, moves
+
+    moves, ceiling, width, _, case = max(held, key=tightness, default=(0, 0, 0, "", 0))
+    return (f"{len(limits)} edits of an acceptance, {above} above their ceiling; {sum(limit[0] for limit in limits)} moves of at most "
+            f"{sum(limit[1] for limit in limits)}; the tightest: {moves} of {ceiling} at width {width}, case {case}\n")
+
+
 def main():
     parser = argparse.ArgumentParser(description=__doc__)
     parser.add_argument("--oracle", type=pathlib.Path, required=True)
@@ -232,7 +263,7 @@ def main():
 
     cases, answers, large, out = collections.Counter(), collections.defaultdict(collections.Counter), set(), []
     through, inner, trees, draws, children, shared, across, deep = (collections.Counter() for _ in range(8))
-    seen, taken = watch(crush), []
+    seen, taken, limited, limits = watch(crush), [], [], []
     gen.Doc.level = options.level
     for kind, edge, given in inputs(crush, gen, options.level, large):
         frames, edits = reference.split_input(given)
@@ -241,7 +272,8 @@ def main():
             continue
         seen.clear()
         taken.clear()
-        answer, groups, w = answer_of(reference, crush, options.level, frames, edits, seen, taken)
+        limited.clear()
+        answer, groups, w = answer_of(reference, crush, options.level, frames, edits, seen, taken, limited)
         if len(given) + len(answer) > LARGE:
             if edge in large:
                 continue
@@ -264,8 +296,9 @@ def main():
         draws.update((cause, stands_at(crush, *met)) for cause, _, *met in seen)
         deep.update(taken)
         across.update(holding for _, holding, *_ in seen if holding)
+        limits += [(*limit, len(out)) for limit in limited]
     (CRATE / "data" / "cases").write_bytes(b"".join(out))
-    (CRATE / "stdout").write_text(f"{len(out)} cases, 0 wrong\n")
+    (CRATE / "stdout").write_text(f"{len(out)} cases, 0 wrong\n" + told_of_ceilings(limits))
     for kind, count in cases.items():
         print(f"{kind}: {count} cases, {dict(sorted(answers[kind].items()))}")
     print(f"step 5: {dict(through)}, moves by an inner walk {dict(sorted(inner.items()))}")
@@ -274,6 +307,10 @@ def main():
     untrue = sum(counts["1f17"] for counts in answers.values())
     print(f"weights: {untrue} maps refused with 23, {deep.total()} edits of a weight taken, by the number of buckets above the drive "
           f"{dict(sorted(deep.items()))}")
+    ways = collections.Counter(way for *_, way, _ in limits)
+    reached = collections.Counter(way for moves, ceiling, _, way, _ in limits if moves == ceiling > 0)
+    unheld = sum(ceiling == 0 for _, ceiling, *_ in limits)
+    print(f"acceptances: {dict(ways)}, reaching their ceiling {dict(reached)}, {unheld} of a drive that no group holds")
     print(f"moves: {dict(sorted(draws.items()))}")
     print(f"{len(out)} cases, {sum(map(len, out))} bytes")
 

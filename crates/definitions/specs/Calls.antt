@@ -19,6 +19,7 @@ use Rattle.definitions.specs.Select.{entriesOf}
 use Rattle.definitions.specs.Rule.{widthOf, Placed, placedOf}
 use Rattle.definitions.specs.Table.{runsOf, tableIn, tableOf}
 use Rattle.definitions.specs.Edit.{changeOf, put, movesIn, movesBytes}
+use Rattle.definitions.specs.Ceiling.{holdersIn}
 use Rattle.definitions.specs.Writing.{mapText, dayGroup, twoBytes}
 use Rattle.definitions.specs.Load.{hasDevice, loadNumber}
 
@@ -211,6 +212,35 @@ editAnswer e = editBy e (editNumber e)
 
 unfoldable pub editOf : List ℕ → List ℕ → List ℕ → List ℕ → EditAnswer
 editOf frames table edit space = editAnswer (caseOf frames table edit space)
+
+-- ---- the ceiling: what an edit of a device's acceptance moves at most (document 02, change 7)
+
+pub record CeilingAnswer : Type 0 where
+  pub number : ℕ
+  pub groups : ℕ
+  pub moves : ℕ
+
+-- it is asked what an edit of that device is, but for the value and for the space
+unfoldable pub ceilingNumber : List ℕ → Map → List Placed → List ℕ → ℕ → ℕ
+ceilingNumber frames m runs table d =
+    firstNo
+    ((14, whole frames)
+    ∷ (16, roomForTable m table)
+    ∷ (17, independent m)
+    ∷ (18, hasDevice m d)
+    ∷ (19, fresh m runs table)
+    ∷ [])
+
+-- the number decides: w is the width, and k the number of groups whose list holds the device
+unfoldable pub ceilingBy : ℕ → ℕ → ℕ → CeilingAnswer
+ceilingBy w k zero = record { number = 0; groups = k; moves = w * k }
+ceilingBy w k (suc n) = record { number = suc n; groups = 0; moves = 0 }
+
+unfoldable pub ceilingOf : List ℕ → List ℕ → ℕ → CeilingAnswer
+ceilingOf frames table d =
+    let m = mapOf frames in
+    let runs = runsOf m in
+    ceilingBy (widthOf m) (holdersIn d runs) (ceilingNumber frames m runs table d)
 
 -- ---- write
 

@@ -11,6 +11,7 @@ pub mod Select
 pub mod Rule
 pub mod Table
 pub mod Edit
+pub mod Ceiling
 pub mod Writing
 pub mod Load
 pub mod Calls

@@ -1,4 +1,4 @@
--- A call of load, of fill, of edit and of write: its arguments, its result and its parameters at exit, of which the function's own contract
+-- A call of load, of fill, of edit, of ceiling and of write: its arguments, its result and its parameters at exit, of which the function's own contract
 -- holds. `Pre` and `Post` are the `requires` and the `ensures` of engine's sources, as Rattle reads them, and `met` is the theorem that the
 -- function meets them.
 use mathlib.Core.Path.{_≡_, refl}
@@ -9,12 +9,13 @@ use borrow.Fn.Kinds.{Dens, endedOf}
 use denote.Triple.Clauses.{AtExit}
 use denote.Ref.{now}
 use Rattle.definitions.specs.Load.{loadNumber}
-use Rattle.definitions.specs.Calls.{FillAnswer, EditAnswer, WriteAnswer, loadOf, fillOf, editOf, writeOf}
+use Rattle.definitions.specs.Calls.{FillAnswer, EditAnswer, CeilingAnswer, WriteAnswer, loadOf, fillOf, editOf, ceilingOf, writeOf}
 use Rattle.history.specs.Calls.{Call}
 use Rattle.engine.specs.declared.fill.Filled.{Filled}
 use Rattle.engine.specs.declared.edit.Edited.{Edited}
+use Rattle.engine.specs.declared.limit.Limit.{Limit}
 use Rattle.engine.specs.declared.write.Written.{Written}
-use Rattle.engine.specs.Answers.{fillAnswer, editAnswer, writeAnswer}
+use Rattle.engine.specs.Answers.{fillAnswer, editAnswer, ceilingAnswer, writeAnswer}
 use Rattle.engine.proofs.load.load.Reads as load
 use Rattle.engine.proofs.load.load.Kinds as load-kinds
 use Rattle.engine.proofs.load.load.Statement as load-statement
@@ -27,6 +28,10 @@ use Rattle.engine.proofs.edit.edit.Reads as edit
 use Rattle.engine.proofs.edit.edit.Kinds as edit-kinds
 use Rattle.engine.proofs.edit.edit.Statement as edit-statement
 use Rattle.engine.proofs.edit.edit.Met as edit-met
+use Rattle.engine.proofs.limit.ceiling.Reads as ceiling
+use Rattle.engine.proofs.limit.ceiling.Kinds as ceiling-kinds
+use Rattle.engine.proofs.limit.ceiling.Statement as ceiling-statement
+use Rattle.engine.proofs.limit.ceiling.Met as ceiling-met
 use Rattle.engine.proofs.write.write.Reads as write
 use Rattle.engine.proofs.write.write.Kinds as write-kinds
 use Rattle.engine.proofs.write.write.Statement as write-statement
@@ -41,6 +46,9 @@ fill-meets = fill-met.met
 
 pub edit-meets : {M : Type 1} → edit-statement.statement M
 edit-meets = edit-met.met
+
+pub ceiling-meets : {M : Type 1} → ceiling-statement.statement M
+ceiling-meets = ceiling-met.met
 
 pub write-meets : {M : Type 1} → write-statement.statement M
 write-meets = write-met.met
@@ -116,6 +124,30 @@ editAnswered c = editAnswer (c .result) (now (c .exit .0)) (now (c .exit .1 .0))
 abbrev pub callOf : EditCall → Call
 callOf c = record { edit = editFrame c; space = editSpace c; answer = editAnswered c }
 
+-- ---- ceiling
+
+pub record CeilingCall : Type 0 where
+  pub κs : Lfts 2
+  pub args : Dens κs ceiling-kinds.ps
+  pub result : Limit
+  pub exit : AtExit (endedOf 2 ceiling-kinds.ps ceiling-kinds.r) κs
+  pub asked : ceiling.Pre κs args
+  pub holds : ceiling.Post κs args result exit
+
+-- the map's frames and the table that it was lent, and the device that it was asked about
+abbrev pub ceilingFrames : CeilingCall → List ℕ
+ceilingFrames k = now (k .args .0)
+
+abbrev pub ceilingTable : CeilingCall → List ℕ
+ceilingTable k = now (k .args .1 .0)
+
+abbrev pub ceilingDevice : CeilingCall → ℕ
+ceilingDevice k = k .args .1 .1 .0
+
+-- what came back
+abbrev pub ceilingAnswered : CeilingCall → CeilingAnswer
+ceilingAnswered k = ceilingAnswer (k .result)
+
 -- ---- write
 
 pub record WriteCall : Type 0 where
@@ -176,6 +208,18 @@ edit-call-of κs a =
           (a .1 .1 .0, (record { ptr = a .1 .1 .1 .0 .ptr; name = a .1 .1 .1 .0 .name; now = o .space }, tt)),
         ),
       );
+      asked = tt;
+      holds = refl;
+    }
+
+abbrev pub ceiling-call-of : (κs : Lfts 2) → Dens κs ceiling-kinds.ps → CeilingCall
+ceiling-call-of κs a =
+    let o = ceilingOf (now (a .0)) (now (a .1 .0)) (a .1 .1 .0) in
+    record {
+      κs = κs;
+      args = a;
+      result = record { number = o .number; groups = o .groups; moves = o .moves };
+      exit = (a .0, (a .1 .0, (a .1 .1 .0, tt)));
       asked = tt;
       holds = refl;
     }

@@ -52,13 +52,13 @@ module _ (l : LoadCall) (f : FillCall) (frames rest table : List ℕ) (s : Start
   start-filled : table ≡ over (tableOf (mapOf frames)) rest
   start-filled = sym (s .left-table) ∙ start-fills .rows
 
-  start-stands : independent (mapOf frames) ≡ true → Standing rest frames table
+  pub start-stands : independent (mapOf frames) ≡ true → Standing rest frames table
   start-stands i = record { loads = start-loads; only = i; room = start-fills .room; filled = start-filled }
 
 -- ---- the list
 
 -- what edit's contract says of a call
-call-answers : (c : EditCall) (frames table : List ℕ) → editFrames c ≡ frames → editTable c ≡ table
+pub call-answers : (c : EditCall) (frames table : List ℕ) → editFrames c ≡ frames → editTable c ≡ table
     → editAnswered c ≡ editOf frames table (editFrame c) (editSpace c)
 call-answers c frames table p q =
     let o : editAnswered c ≡ editOf (editFrames c) (editTable c) (editFrame c) (editSpace c) = c .holds in
@@ -67,7 +67,7 @@ call-answers c frames table p q =
     ∙ ap (λ (x : List ℕ). editOf frames x (editFrame c) (editSpace c)) q
 
 -- such a list is one by the definition of each call
-runs : {frames table frames′ table′ : List ℕ} {cs : List EditCall} → EditRun frames table cs frames′ table′
+pub runs : {frames table frames′ table′ : List ℕ} {cs : List EditCall} → EditRun frames table cs frames′ table′
     → Run frames table (map callOf cs) frames′ table′
 runs empty = none
 runs {frames} {table} (next c p q r) = then (callOf c) (call-answers c frames table p q) (runs r)

@@ -1,4 +1,4 @@
--- Instances of demand 3: the calls that are lent given bytes, one after the other, with the answers that the definitions give.
+-- Instances of demand 3 and of change 7: the calls that are lent given bytes, one after the other, with the answers that the definitions give.
 use mathlib.Core.Path.{_≡_, refl, sym, ap, subst}
 use mathlib.Core.List.{List, _∷_}
 use Prim.Native.Nat.{ℕ}
@@ -6,7 +6,7 @@ use contract.Lifetimes.{Lfts}
 use denote.Ref.{RefT}
 use lib.ListN.{replicate}
 use Rattle.definitions.specs.Calls.{FillAnswer, EditAnswer, loadOf, fillOf, editOf}
-use Rattle.demands.proofs.Contracts.{LoadCall, load-call-of, FillCall, fill-call-of, EditCall, edit-call-of}
+use Rattle.demands.proofs.Contracts.{LoadCall, load-call-of, FillCall, fill-call-of, EditCall, edit-call-of, CeilingCall, ceiling-call-of}
 use Rattle.demands.proofs.Demand3.{Start, EditRun, next}
 
 -- a space of two moves, as it is lent
@@ -18,6 +18,7 @@ pub record Lending : Type 0 where
   pub load : Lfts 1
   pub fill : Lfts 2
   pub edit : Lfts 4
+  pub ceiling : Lfts 2
   pub at : ℕ → ℕ × ℕ
   pub name : ℕ → ℕ
 
@@ -34,6 +35,9 @@ module _ (k : Lending) where
 
   abbrev pub editCall : List ℕ → List ℕ → List ℕ → List ℕ → EditCall
   editCall frames table edit space = edit-call-of (k .edit) (lent 0 frames, (lent 1 table, (lent 2 edit, (lent 3 space, tt))))
+
+  abbrev pub ceilingCall : List ℕ → List ℕ → ℕ → CeilingCall
+  ceilingCall frames table d = ceiling-call-of (k .ceiling) (lent 0 frames, (lent 1 table, (d, tt)))
 
   -- load takes the frames, and fill leaves this table
   pub starts : {frames rest table : List ℕ} {places : ℕ} → loadOf frames ≡ 0 → fillOf frames rest ≡ record { number = 0; places = places; table = table }

@@ -2,10 +2,11 @@
 -- write.
 use mathlib.Core.List.{List}
 use Prim.Native.Nat.{ℕ}
-use Rattle.definitions.specs.Calls.{PlaceAnswer, DaemonAnswer, FillAnswer, EditAnswer, WriteAnswer, DayAnswer}
+use Rattle.definitions.specs.Calls.{PlaceAnswer, DaemonAnswer, FillAnswer, EditAnswer, CeilingAnswer, WriteAnswer, DayAnswer}
 use Rattle.engine.specs.declared.place.Placing.{Placing}
 use Rattle.engine.specs.declared.fill.Filled.{Filled}
 use Rattle.engine.specs.declared.edit.Edited.{Edited}
+use Rattle.engine.specs.declared.limit.Limit.{Limit}
 use Rattle.engine.specs.declared.write.Written.{Written}
 use Rattle.engine.specs.declared.day.Day.{Day}
 
@@ -26,3 +27,6 @@ daemonAnswer r out = record { number = r .number; places = r .places; tries = r 
 
 abbrev pub editAnswer : Edited → List ℕ → List ℕ → List ℕ → EditAnswer
 editAnswer r frames table space = record { number = r .number; moves = r .moves; frames = frames; table = table; space = space }
+
+abbrev pub ceilingAnswer : Limit → CeilingAnswer
+ceilingAnswer r = record { number = r .number; groups = r .groups; moves = r .moves }

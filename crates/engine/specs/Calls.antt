@@ -18,11 +18,11 @@ use Rattle.definitions.specs.Calls.{whole, groupBelow, roomForRow, roomForTable
 use Rattle.text.specs.Agreement.{loaded-text}
 
 -- question 14
-whole-no : (f : List ℕ) → (loadNumber f ≡ 0 → ⊥) → whole f ≡ false
+pub whole-no : (f : List ℕ) → (loadNumber f ≡ 0 → ⊥) → whole f ≡ false
 unfolding whole
 whole-no f h = ne-eqb (loadNumber f) 0 h
 
-whole-yes : (f : List ℕ) → loadNumber f ≡ 0 → whole f ≡ true
+pub whole-yes : (f : List ℕ) → loadNumber f ≡ 0 → whole f ≡ true
 unfolding whole
 whole-yes f e = eq-eqb (loadNumber f) 0 e
 

@@ -5,4 +5,5 @@ pub mod Compiled
 pub mod Editing
 pub mod Edits
 pub mod Fitting
+pub mod Limits
 pub mod Paired

@@ -1,5 +1,5 @@
-// The storage daemon's calls, in C. Placing: "the map's frames, to which load's questions are put first, the group, and space where each place becomes
-// two bytes, high byte first".
+// The calls for C: those of the storage daemon, and the ceiling for site staff. Placing: "the map's frames, to which load's questions are put first,
+// the group, and space where each place becomes two bytes, high byte first".
 ghost use mathlib.Core.Path.{_≡_};
 ghost use Prim.Native.Nat.{_*_, _≤_};
 ghost use lib.ListN.{length};
@@ -11,10 +11,12 @@ ghost use Rattle.definitions.specs.Rule.{widthOf, placedOf};
 ghost use Rattle.definitions.specs.Load.{loadNumber};
 ghost use Rattle.text.specs.Shape.{shapeOf};
 ghost use Rattle.definitions.specs.Writing.{twoBytes};
-ghost use Rattle.definitions.specs.Calls.{dayOf, daemonOf};
-ghost use Rattle.engine.specs.Answers.{dayAnswer, daemonAnswer};
+ghost use Rattle.definitions.specs.Calls.{dayOf, daemonOf, ceilingOf};
+ghost use Rattle.engine.specs.Answers.{dayAnswer, daemonAnswer, ceilingAnswer};
 use crate::day;
 use crate::day::Day;
+use crate::limit;
+use crate::limit::Limit;
 use crate::place;
 use crate::place::Placing;
 use crate::row;
@@ -82,4 +84,12 @@ pub extern "C" fn crush_day_group(map: &[u8], show: u32, day: u32) -> Day
     ensures { λ r. ⌜ dayAnswer r ≡ dayOf (now (map .entry)) show day ⌝ }
 {
     day::day_group(map, show, day)
+}
+
+// What an edit of a drive's acceptance moves at most.
+#[no_mangle]
+pub extern "C" fn crush_ceiling(map: &[u8], table: &[u16], device: u32) -> Limit
+    ensures { λ r. ⌜ ceilingAnswer r ≡ ceilingOf (now (map .entry)) (now (table .entry)) device ⌝ }
+{
+    limit::ceiling(map, table, device)
 }

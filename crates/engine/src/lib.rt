@@ -4,6 +4,7 @@ pub mod daemon;
 pub mod day;
 pub mod edit;
 pub mod fill;
+pub mod limit;
 pub mod load;
 pub mod place;
 mod row;

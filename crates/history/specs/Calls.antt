@@ -19,10 +19,11 @@ use Rattle.definitions.specs.Writing.{mapText}
 use Rattle.definitions.specs.Load.{loadNumber}
 use Rattle.definitions.specs.Calls.{fits, EditAnswer, EditCase, caseOf, editNumber, editBy, editAnswer, editOf}
 use Rattle.laws.specs.Loadable.{put-groups, put-width}
-use Rattle.tracing.specs.Listed.{entryAt, table-width, table-row}
+use Rattle.tracing.specs.Listed.{entryAt, table-width}
 -- passed on to those who speak of `Answered`
 pub use Rattle.tracing.specs.Moves.{MovesTraced}
 use Rattle.tracing.specs.Moves.{moves-traced}
+use Rattle.ceiling.specs.Rows.{rowAt, front-row}
 use Rattle.text.specs.Agreement.{loaded-map, loaded-text}
 use Rattle.history.specs.Step.{Standing, Done, Told, unfit, cramped, done, step-told, step-stands}
 
@@ -115,16 +116,10 @@ entry-is rest frames table S g j h l =
 
 row-is : (rest frames table : List ℕ) → Standing rest frames table → (g : ℕ) → g < mapOf frames .groups
     → take (widthOf (mapOf frames)) (drop (g * widthOf (mapOf frames)) table) ≡ entriesOf (placedOf (mapOf frames) g .places)
-unfolding tableOf runsOf rowIn
+unfolding rowIn
 row-is rest frames table S g h =
     let m = mapOf frames in
-    let w = widthOf m in
-    let L = loaded-map frames (S .loads) in
-    let n = table-width m L (S .only) (m .groups) in
-    let room : g * w + w ≤ length (tableOf m) = omega (arith, n, mul-le-mul-right w h) in
-    ap (λ (t : List ℕ). take w (drop (g * w) t)) (S .filled)
-    ∙ rw (drop-append-le (g * w) (tableOf m) (drop (length (tableOf m)) rest) (omega arith))
-    (take-append-le w (drop (g * w) (tableOf m)) (drop (length (tableOf m)) rest) (omega (arith, length-drop (g * w) (tableOf m))) ∙ table-row m L (S .only) (m .groups) g h)
+    ap (λ (t : List ℕ). rowAt (widthOf m) t g) (S .filled) ∙ front-row m (loaded-map frames (S .loads)) (S .only) (drop (length (tableOf m)) rest) g h
 
 -- what a told call leaves is the map with its value put in where it was good
 put-told : (rest frames table : List ℕ) (c : Call) → Told rest frames table (c .edit) (c .space) (c .answer)
@@ -135,7 +130,7 @@ put-told rest frames table c (cramped e f r) = rw (r .number) (ap mapOf (r .same
 put-told rest frames table c (done e f d) = rw (d .number) (d .holds)
 
 -- a good call is done
-told-done : (rest frames table : List ℕ) (c : Call) → Told rest frames table (c .edit) (c .space) (c .answer) → c .answer .number ≡ 0
+pub told-done : (rest frames table : List ℕ) (c : Call) → Told rest frames table (c .edit) (c .space) (c .answer) → c .answer .number ≡ 0
     → (fits (mapOf frames) (changeOf (c .edit)) ≡ true) × Done rest (mapOf frames) (changeOf (c .edit)) (c .space) (c .answer)
 told-done rest frames table c (unfit e r) z = absurd (omega (arith, r .number, z))
 told-done rest frames table c (cramped e f r) z = absurd (omega (arith, r .number, z))

@@ -69,6 +69,35 @@ pub data Told (rest frames table edit space : List ℕ) (o : EditAnswer) : Type 
 length-over : (a rest : List ℕ) → length a ≤ length rest → length (over a rest) ≡ length rest
 length-over a rest h = length-append a (drop (length a) rest) ∙ omega (arith, length-drop (length a) rest)
 
+-- so 14, 16 and 19 are answered yes
+module _ (rest frames table : List ℕ) (S : Standing rest frames table) where
+  abbrev n : Map
+  n = mapOf frames
+
+  loadable : Loadable n
+  loadable = loaded-map frames (S .loads)
+
+  filled-length : length (tableOf n) ≡ n .groups * widthOf n
+  unfolding tableOf runsOf
+  filled-length = table-width n loadable (S .only) (n .groups)
+
+  pub asked-14 : whole frames ≡ true
+  unfolding whole
+  asked-14 = eq-eqb (loadNumber frames) 0 (S .loads)
+
+  pub asked-16 : roomForTable n table ≡ true
+  unfolding roomForTable
+  asked-16 =
+      let l : length table ≡ length rest = ap length (S .filled) ∙ length-over (tableOf n) rest (omega (arith, filled-length, S .room)) in
+      le-leb (n .groups * widthOf n) (length table) (omega (arith, l, S .room))
+
+  pub asked-19 : fresh n (runsOf n) table ≡ true
+  unfolding fresh tableOf
+  asked-19 =
+      let e : take (n .groups * widthOf n) table ≡ tableIn (runsOf n) =
+      ap (take (n .groups * widthOf n)) (S .filled) ∙ take-at (tableOf n) (drop (length (tableOf n)) rest) (n .groups * widthOf n) filled-length in
+      rw e (same-self (tableIn (runsOf n)))
+
 module _ (rest frames table edit space : List ℕ) (S : Standing rest frames table) where
   abbrev m : Map
   m = mapOf frames
@@ -79,34 +108,13 @@ module _ (rest frames table edit space : List ℕ) (S : Standing rest frames tab
   abbrev m′ : Map
   m′ = put m c
 
-  loadable : Loadable m
-  loadable = loaded-map frames (S .loads)
-
-  filled-length : length (tableOf m) ≡ m .groups * widthOf m
-  unfolding tableOf runsOf
-  filled-length = table-width m loadable (S .only) (m .groups)
-
-  asked-14 : whole frames ≡ true
-  unfolding whole
-  asked-14 = eq-eqb (loadNumber frames) 0 (S .loads)
-
-  asked-16 : roomForTable m table ≡ true
-  unfolding roomForTable
-  asked-16 =
-      let l : length table ≡ length rest = ap length (S .filled) ∙ length-over (tableOf m) rest (omega (arith, filled-length, S .room)) in
-      le-leb (m .groups * widthOf m) (length table) (omega (arith, l, S .room))
-
-  asked-19 : fresh m (runsOf m) table ≡ true
-  unfolding fresh tableOf
-  asked-19 =
-      let e : take (m .groups * widthOf m) table ≡ tableIn (runsOf m) =
-      ap (take (m .groups * widthOf m)) (S .filled) ∙ take-at (tableOf m) (drop (length (tableOf m)) rest) (m .groups * widthOf m) filled-length in
-      rw e (same-self (tableIn (runsOf m)))
+  is-loadable : Loadable m
+  is-loadable = loadable rest frames table S
 
   -- the questions that are left: 18 and 20
   step-number : editNumber (caseOf frames table edit space) ≡ cond (fits m c) (cond (roomForMoves (movesOf m m′) space) 0 20) 18
   unfolding editNumber caseOf firstNo movesOf
-  step-number = simp (asked-14, asked-16, S .only, asked-19)
+  step-number = simp (asked-14 rest frames table S, asked-16 rest frames table S, S .only, asked-19 rest frames table S)
 
   answer-is : editOf frames table edit space ≡ editBy (caseOf frames table edit space) (cond (fits m c) (cond (roomForMoves (movesOf m m′) space) 0 20) 18)
   unfolding editOf editAnswer
@@ -117,7 +125,7 @@ module _ (rest frames table edit space : List ℕ) (S : Standing rest frames tab
   new-length h =
       let e : m′ .groups * widthOf m′ ≡ m .groups * widthOf m =
       ap (λ (n : ℕ). n * widthOf m′) (put-groups m c) ∙ ap (λ (n : ℕ). m .groups * n) (put-width m c) in
-      table-width m′ (put-loadable m c loadable h) (put-independent m c ∙ S .only) (m′ .groups) ∙ e ∙ sym (table-width m loadable (S .only) (m .groups))
+      table-width m′ (put-loadable m c is-loadable h) (put-independent m c ∙ S .only) (m′ .groups) ∙ e ∙ sym (table-width m is-loadable (S .only) (m .groups))
 
   -- ONE CALL
   pub step-told : Told rest frames table edit space (editOf frames table edit space)
@@ -134,7 +142,7 @@ module _ (rest frames table edit space : List ℕ) (S : Standing rest frames tab
             number = refl;
             count = refl;
             text = refl;
-            holds = written-map m′ (put-loadable m c loadable e);
+            holds = written-map m′ (put-loadable m c is-loadable e);
             filled = ap (over (tableOf m′)) (S .filled) ∙ over-over (tableOf m′) (tableOf m) rest (new-length e);
             written = refl;
           })
@@ -145,7 +153,7 @@ module _ (rest frames table edit space : List ℕ) (S : Standing rest frames tab
   step-stands o (cramped e f r) = rw (r .same-frames, r .same-table) S
   step-stands o (done e f d) =
       record {
-        loads = rw (d .text) (written-loads m′ (put-loadable m c loadable e));
+        loads = rw (d .text) (written-loads m′ (put-loadable m c is-loadable e));
         only = ap independent (d .holds) ∙ put-independent m c ∙ S .only;
         room =
             subst (λ (n : Map). n .groups * widthOf n ≤ length rest) (sym (d .holds))

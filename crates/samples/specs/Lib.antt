@@ -2,3 +2,4 @@ pub mod Samples
 pub mod Libcrush
 pub mod Blocks
 pub mod Written
+pub mod Reached

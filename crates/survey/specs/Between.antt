@@ -23,6 +23,7 @@ use Rattle.hierarchy.specs.declared.Rule.{Rule}
 use Rattle.hierarchy.specs.Arrays.{viewIn, actionsIn}
 use Rattle.tracing.specs.Runs as runs
 use Rattle.tracing.specs.Listed.{table-more, placed-list, placed-width}
+use Rattle.tracing.specs.Moves.{runs-count, runs-at}
 use Rattle.survey.specs.declared.surveys.Findings.{Findings}
 use Rattle.survey.specs.Places.{listAt, placesAt}
 use Rattle.survey.specs.Surveyed.{rowsTo, movesBy, Surveyed}
@@ -70,21 +71,7 @@ module _ (m : Map) (f : ℕ → List Place) (is : Gives m f) where
   rows-table zero = refl
   rows-table (suc n) = ap₂ (λ (a : List ℕ) (b : List Place). a ++ entriesOf b) (rows-table n) (is n) ∙ sym (table-more (runsTo m n) (placedOf m n))
 
--- the runs of all groups
-runs-count : (m : Map) (n : ℕ) → length (runsTo m n) ≡ n
-unfolding runsTo
-runs-count m zero = refl
-runs-count m (suc n) = length-append (runsTo m n) (placedOf m n ∷ []) ∙ omega (arith, runs-count m n)
-
-runs-at : (m : Map) (n g : ℕ) → g < n → getD (runsTo m n) g nothingPlaced ≡ placedOf m g
-unfolding runsTo
-runs-at m zero g h = absurd (omega arith)
-runs-at m (suc n) g h =
-    ⊎-elim
-    (λ (e : g ≡ n). getD-at (runsTo m n) (placedOf m n) [] nothingPlaced g (runs-count m n ∙ sym e) ∙ ap (placedOf m) (sym e))
-    (λ (l : g < n). List·getD-append (runsTo m n) (placedOf m n ∷ []) nothingPlaced g (omega (arith, runs-count m n)) ∙ runs-at m n g l)
-    (eq-or-lt-of-le (omega arith))
-
+-- the moves of the first groups
 moves-to : (m m′ : Map) (f f′ : ℕ → List Place) → Gives m f → Gives m′ f′ → (w k n : ℕ) → n ≤ k
     → movesBy w f f′ n ≡ movesTo w (runsTo m k) (runsTo m′ k) n
 unfolding movesBy movesTo rowMoves
@@ -126,6 +113,11 @@ module _ {plan old new : List ℕ} {rule : Rule} {groups w : ℕ} (m m′ : Map)
   pub new-long : (x : ℕ) → length (listAt plan new rule x) ≡ w
   new-long = list-long m′ plan new rule w (B .view′) (B .actions′) (B .steps) (B .width′) (B .loadable′) (B .only′)
 
+  -- a table whose rows are those of the old run is what fill gives
+  pub fresh-is : (table : List ℕ) → same (take (groups * w) table) (rowsTo (placesAt plan old rule w) groups) ≡ fresh m (runsOf m) table
+  unfolding fresh tableOf
+  fresh-is table = ap₂ (λ (k : ℕ) (t : List ℕ). same (take k table) t) (ap₂ (λ (a b : ℕ). a * b) (sym (B .groups)) (sym (B .width))) old-table
+
   -- what the code asks of the rule and the groups
   pub few : groups ≤ 65536
   few = omega (arith, ranged-is m (B .loadable .ranged) .most, B .groups)
@@ -142,9 +134,4 @@ pub record Answers (m m′ : Map) (table : List ℕ) (s : Findings) : Type 0 whe
 pub answers : {plan old new : List ℕ} {rule : Rule} {groups w : ℕ} {table : List ℕ} {s : Findings}
     → Surveyed w (placesAt plan old rule w) (placesAt plan new rule w) groups table s → (m m′ : Map) → Between plan old new rule groups w m m′
     → Answers m m′ table s
-unfolding fresh tableOf
-answers {groups = groups} {w = w} {table = table} f m m′ B =
-    record {
-      fresh = f .fresh ∙ ap₂ (λ (k : ℕ) (t : List ℕ). same (take k table) t) (ap₂ (λ (a b : ℕ). a * b) (sym (B .groups)) (sym (B .width))) (old-table m m′ B);
-      moves = λ e. f .moves e ∙ ap length (moves-are m m′ B);
-    }
+answers {table = table} f m m′ B = record { fresh = f .fresh ∙ fresh-is m m′ B table; moves = λ e. f .moves e ∙ ap length (moves-are m m′ B) }

@@ -64,6 +64,14 @@ module _ (plan values : List ℕ) (rule : Rule) (w x : ℕ) where
   row-taken a zs h l e =
       let k = length-take-le w zs h in take-at a (drop w zs) w (l ∙ k) ∙ e ∙ ap (λ (i : ℕ). filledUp i bare) k ∙ row-is
 
+-- whether a row holds these places, w of them
+abbrev pub Stood : List Place → ℕ → List ℕ → Bool → Type 0
+Stood ps w row r = (r ≡ same row (entriesOf ps)) × (length (entriesOf ps) ≡ w)
+
+-- from places that were made beside it
+pub stood : (ps : List Place) (w : ℕ) (row places : List ℕ) (r : Bool) → length places ≡ w → places ≡ entriesOf ps → r ≡ same row places → Stood ps w row r
+stood ps w row places r l e q = (q ∙ ap (same row) e, ap length (sym e) ∙ l)
+
 -- what was found of a group whose old and new places these are, and of its row of the table
 abbrev pub Looked : List Place → List Place → ℕ → ℕ → List ℕ → Glance → Type 0
 Looked ps qs w x row Stale = (same row (entriesOf ps) ≡ false) × (length (entriesOf ps) ≡ w)
@@ -73,22 +81,21 @@ Looked ps qs w x row (Moves k) = (row ≡ entriesOf ps) × (k ≡ length (rowMov
 pub few-moves : (ps qs : List Place) (w x : ℕ) (row : List ℕ) (o : Glance) (k : ℕ) → Looked ps qs w x row o → o ≡ Moves k → k ≤ 32
 few-moves ps qs w x row o k l e = subst (Looked ps qs w x row) e l .2
 
-untrue : (b : Bool) → not b ≡ true → b ≡ false
+pub untrue : (b : Bool) → not b ≡ true → b ≡ false
 untrue true e = absurd (false≢true e)
 untrue false e = refl
 
-unfalse : (b : Bool) → not b ≡ false → b ≡ true
+pub unfalse : (b : Bool) → not b ≡ false → b ≡ true
 unfalse true e = refl
 unfalse false e = absurd (false≢true (sym e))
 
-pub looked-stale : (ps qs : List Place) (w x : ℕ) (row old : List ℕ) (r : Bool) → length old ≡ w → old ≡ entriesOf ps → r ≡ same row old → not r ≡ true
-    → Looked ps qs w x row Stale
-looked-stale ps qs w x row old r l e q f = (ap (same row) (sym e) ∙ sym q ∙ untrue r f, ap length (sym e) ∙ l)
+pub looked-stale : (ps qs : List Place) (w x : ℕ) (row : List ℕ) (r : Bool) → Stood ps w row r → not r ≡ true → Looked ps qs w x row Stale
+looked-stale ps qs w x row r q f = (sym (q .0) ∙ untrue r f, q .1)
 
-pub looked-moves : (ps qs : List Place) (w x k : ℕ) (row old new : List ℕ) (r : Bool) → length row ≡ w → old ≡ entriesOf ps → r ≡ same row old → not r ≡ false
+pub looked-moves : (ps qs : List Place) (w x k : ℕ) (row new : List ℕ) (r : Bool) → length row ≡ w → Stood ps w row r → not r ≡ false
     → length new ≡ w → new ≡ entriesOf qs → k ≡ differTo row new (length row) → k ≤ 32 → Looked ps qs w x row (Moves k)
-looked-moves ps qs w x k row old new r l e q t l′ e′ c h =
-    let i : row ≡ entriesOf ps = same-is row old (sym q ∙ unfalse r t) ∙ e in
-    let a : length ps ≡ w = sym (length-entries ps) ∙ ap length (sym i) ∙ l in
+looked-moves ps qs w x k row new r l q t l′ e′ c h =
+    let i : row ≡ entriesOf ps = same-is row (entriesOf ps) (sym (q .0) ∙ unfalse r t) in
+    let a : length ps ≡ w = sym (length-entries ps) ∙ q .1 in
     let b : length qs ≡ w = sym (length-entries qs) ∙ ap length (sym e′) ∙ l′ in
     (i, c ∙ ap₂ (λ (y z : List ℕ). differTo y z (length row)) i e′ ∙ ap (differTo (entriesOf ps) (entriesOf qs)) l ∙ differ-moves x ps qs w (omega arith) (omega arith), h)

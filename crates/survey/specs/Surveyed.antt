@@ -49,6 +49,51 @@ room g n w h = omega (arith, mul-le-mul-right w h)
 pub small : (g n w : ℕ) → g < n → n ≤ 65536 → w ≤ 32 → g * w + w ≤ 2097152
 small g n w h l k = omega (arith, mul-le-mul-right w h, mul-le-mul l k)
 
+-- ---- a table whose rows below g are those that f gives
+
+module _ (w : ℕ) (f : ℕ → List Place) (g : ℕ) (table : List ℕ) (rows : take (g * w) table ≡ rowsTo f g) (j : ℕ) (one : j ≡ w) where
+  row-is : take j (drop (g * w) table) ≡ take w (drop (g * w) table)
+  row-is = ap (λ (k : ℕ). take k (drop (g * w) table)) one
+
+  -- one row more
+  pub rows-more : take j (drop (g * w) table) ≡ entriesOf (f g) → take ((g + 1) * w) table ≡ rowsTo f (g + 1)
+  unfolding rowsTo
+  rows-more e =
+      let next : (g + 1) * w ≡ g * w + w = omega arith in
+      rw (next, take-add (g * w) w table, ← row-is, rows, e, add-one) refl
+
+  -- row g is another, so the table is
+  pub rows-differ : (groups : ℕ) → g < groups → groups * w ≤ length table → length (entriesOf (f g)) ≡ w → same (take j (drop (g * w) table)) (entriesOf (f g)) ≡ false
+      → same (take (groups * w) table) (rowsTo f groups) ≡ false
+  rows-differ groups h room long differ = go (same (take (groups * w) table) (rowsTo f groups)) refl
+    where
+      row : List ℕ
+      row = take j (drop (g * w) table)
+
+      equal : take (groups * w) table ≡ rowsTo f groups → row ≡ entriesOf (f g)
+      equal e =
+          let (rest, q) = rows-split f groups g h in
+          let small : g * w + w ≤ groups * w = omega (arith, mul-le-mul-right w h) in
+          let a : length (rowsTo f g) ≡ g * w = ap length (sym rows) ∙ length-take-le (g * w) table (omega arith) in
+          let t : take (g * w + w) table ≡ take (g * w + w) (rowsTo f groups) = sym (take-take (g * w + w) (groups * w) table small) ∙ ap (take (g * w + w)) e in
+          let u : drop (g * w) (take (g * w + w) table) ≡ row = ap (drop (g * w)) (take-add (g * w) w table) ∙ drop-at (take (g * w) table) (take w (drop (g * w) table)) (g * w) (length-take-le (g * w) table (omega arith)) ∙ sym row-is in
+          let v : take (g * w + w) (rowsTo f groups) ≡ rowsTo f g ++ entriesOf (f g) = ap (take (g * w + w)) (q ∙ sym (append-assoc (rowsTo f g) (entriesOf (f g)) rest)) ∙ take-at (rowsTo f g ++ entriesOf (f g)) rest (g * w + w) (length-append (rowsTo f g) (entriesOf (f g)) ∙ ap₂ (λ (x y : ℕ). x + y) a long) in
+          sym u ∙ ap (drop (g * w)) (t ∙ v) ∙ drop-at (rowsTo f g) (entriesOf (f g)) (g * w) a
+
+      go : (b : Bool) → same (take (groups * w) table) (rowsTo f groups) ≡ b → same (take (groups * w) table) (rowsTo f groups) ≡ false
+      go true e = absurd (false≢true (sym differ ∙ is-same row (entriesOf (f g)) (equal (same-is _ _ e))))
+      go false e = e
+
+-- none yet
+pub rows-none : (w : ℕ) (f : ℕ → List Place) (table : List ℕ) → take (0 * w) table ≡ rowsTo f 0
+unfolding rowsTo
+rows-none w f table = rw (zero-mul w) refl
+
+-- every row is what f gives
+pub rows-all : (w : ℕ) (f : ℕ → List Place) (g groups : ℕ) (table : List ℕ) → g ≡ groups → take (g * w) table ≡ rowsTo f g
+    → true ≡ same (take (groups * w) table) (rowsTo f groups)
+rows-all w f g groups table e q = rw (← e) (sym (is-same _ _ q))
+
 module _ (w : ℕ) (f f′ : ℕ → List Place) where
   -- what a survey of the table finds: 19, "Table what fill gives?", the number of moves, and which groups have none
   pub record Surveyed (groups : ℕ) (table : List ℕ) (s : Findings) : Type 0 where
@@ -69,8 +114,8 @@ module _ (w : ℕ) (f f′ : ℕ → List Place) where
     pub long : length changed ≡ 65536
 
   pub sofar-none : (table changed : List ℕ) → length changed ≡ 65536 → Sofar 0 table 0 changed
-  unfolding rowsTo movesBy
-  sofar-none table changed l = record { rows = rw (zero-mul w) refl; counted = refl; few = omega arith; marks = λ k h e. absurd (omega arith); long = l }
+  unfolding movesBy
+  sofar-none table changed l = record { rows = rows-none w f table; counted = refl; few = omega arith; marks = λ k h e. absurd (omega arith); long = l }
 
   none-length : (ms : List Move) → length ms ≡ 0 → ms ≡ []
   none-length [] e = refl
@@ -81,17 +126,13 @@ module _ (w : ℕ) (f f′ : ℕ → List Place) where
     abbrev row : List ℕ
     row = take j (drop (g * w) table)
 
-    is : row ≡ take w (drop (g * w) table)
-    is = ap (λ (k : ℕ). take k (drop (g * w) table)) one
-
     -- one group more
     pub sofar-more : (k b : ℕ) → g < 65536 → o ≡ Moves k → b ≡ cond (eqb k 0) 0 1
         → Sofar (g + 1) table (moves + k) (set changed g b)
-    unfolding rowsTo movesBy
+    unfolding movesBy
     sofar-more k b l moved e =
-        let next : (g + 1) * w ≡ g * w + w = omega arith in
         record {
-          rows = rw (next, take-add (g * w) w table, ← is, s .rows, told .0, add-one) refl;
+          rows = rows-more w f g table (s .rows) j one (told .0);
           counted = rw (add-one, s .counted, told .1) (sym (length-append (movesBy w f f′ g) (rowMovesTo g (f g) (f′ g) w)));
           few = omega (arith, s .few, told .2);
           marks = λ i l z. ⊎-elim (λ (q : i ≡ g). last i q z) (λ (q : i < g). s .marks i q (sym (getD-set-other changed g i b 0 (λ t. omega arith)) ∙ z)) (eq-or-lt-of-le (omega arith));
@@ -114,7 +155,7 @@ module _ (w : ℕ) (f f′ : ℕ → List Place) where
     pub surveyed-stale : o ≡ Stale → Surveyed groups table (record { fresh = false; moves = 0; changed = changed })
     surveyed-stale stale =
         record {
-          fresh = go (same (take (groups * w) table) (rowsTo f groups)) refl;
+          fresh = sym (rows-differ w f g table (s .rows) j one groups h room (told .1) (told .0));
           moves = λ e. absurd (false≢true e);
           changed = λ e. absurd (false≢true e);
         }
@@ -122,26 +163,12 @@ module _ (w : ℕ) (f f′ : ℕ → List Place) where
         told : Looked (f g) (f′ g) w g row Stale
         told = subst (Looked (f g) (f′ g) w g row) stale found
 
-        equal : take (groups * w) table ≡ rowsTo f groups → row ≡ entriesOf (f g)
-        equal e =
-            let (rest, q) = rows-split f groups g h in
-            let small : g * w + w ≤ groups * w = omega (arith, mul-le-mul-right w h) in
-            let a : length (rowsTo f g) ≡ g * w = ap length (sym (s .rows)) ∙ length-take-le (g * w) table (omega arith) in
-            let t : take (g * w + w) table ≡ take (g * w + w) (rowsTo f groups) = sym (take-take (g * w + w) (groups * w) table small) ∙ ap (take (g * w + w)) e in
-            let u : drop (g * w) (take (g * w + w) table) ≡ row = ap (drop (g * w)) (take-add (g * w) w table) ∙ drop-at (take (g * w) table) (take w (drop (g * w) table)) (g * w) (length-take-le (g * w) table (omega arith)) ∙ sym is in
-            let v : take (g * w + w) (rowsTo f groups) ≡ rowsTo f g ++ entriesOf (f g) = ap (take (g * w + w)) (q ∙ sym (append-assoc (rowsTo f g) (entriesOf (f g)) rest)) ∙ take-at (rowsTo f g ++ entriesOf (f g)) rest (g * w + w) (length-append (rowsTo f g) (entriesOf (f g)) ∙ ap₂ (λ (x y : ℕ). x + y) a (told .1)) in
-            sym u ∙ ap (drop (g * w)) (t ∙ v) ∙ drop-at (rowsTo f g) (entriesOf (f g)) (g * w) a
-
-        go : (b : Bool) → same (take (groups * w) table) (rowsTo f groups) ≡ b → false ≡ same (take (groups * w) table) (rowsTo f groups)
-        go true e = absurd (false≢true (sym (told .0) ∙ is-same row (entriesOf (f g)) (equal (same-is _ _ e))))
-        go false e = sym e
-
   -- every row is what fill gives
   pub surveyed-all : (g groups : ℕ) (table changed : List ℕ) (moves : ℕ) → g ≡ groups → Sofar g table moves changed
       → Surveyed groups table (record { fresh = true; moves = moves; changed = changed })
   surveyed-all g groups table changed moves e s =
       record {
-        fresh = rw (← e) (sym (is-same _ _ (s .rows)));
+        fresh = rows-all w f g groups table e (s .rows);
         moves = λ t. s .counted ∙ ap (λ (n : ℕ). length (movesBy w f f′ n)) e;
         changed = λ t k h. s .marks k (omega arith);
       }

@@ -2,7 +2,7 @@
 ghost use mathlib.Core.Path.{_≡_};
 ghost use lib.ListN.{length, take};
 ghost use Rattle.definitions.specs.Select.{entriesOf};
-ghost use Rattle.survey.specs.Places.{placesAt, Runs, Looked};
+ghost use Rattle.survey.specs.Places.{placesAt, Runs, Stood, Looked};
 use crate::rows;
 use hierarchy::Plan;
 use hierarchy::Rule;
@@ -25,6 +25,22 @@ pub fn row_of<'a>(plan: &'a Plan, values: &'a Values, rule: Rule, x: u32, w: usi
     r
 }
 
+// Whether a row holds the w places of group x.
+pub fn stands<'a, 'b>(
+    plan: &'a Plan,
+    values: &'a Values,
+    rule: Rule,
+    x: u32,
+    w: usize,
+    row: &'b [u16],
+) -> bool
+    requires { ⌜ Runs (now plan) (now values) rule w × (length (now row) ≡ w) ⌝ }
+    ensures { λ r. ⌜ Stood (placesAt (now (plan .entry)) (now (values .entry)) rule w x) w (now (row .entry)) r ⌝ }
+{
+    let places = row_of(plan, values, rule, x, w);
+    rows::same_row(row, &places[..w])
+}
+
 // Places group x by both runs: w places, of which the row should hold the old.
 pub fn look<'a, 'b>(
     plan: &'a Plan,
@@ -41,8 +57,7 @@ pub fn look<'a, 'b>(
         (placesAt (now (plan .entry)) (now (new .entry)) rule w x)
         w x (now (row .entry)) o ⌝ }
 {
-    let before = row_of(plan, old, rule, x, w);
-    if !rows::same_row(row, &before[..w]) {
+    if !stands(plan, old, rule, x, w, row) {
         return Glance::Stale;
     }
     let after = row_of(plan, new, rule, x, w);

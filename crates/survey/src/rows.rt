@@ -4,7 +4,7 @@ ghost use mathlib.Core.Bool.{cond};
 ghost use Prim.Native.Nat.{_≤_};
 ghost use lib.Dec.{eqb};
 ghost use lib.ListN.{length};
-ghost use Rattle.definitions.specs.Lists.{same};
+ghost use Rattle.definitions.specs.Lists.{same, has};
 ghost use Rattle.survey.specs.Rows.{differTo};
 
 // The two rows are the same.
@@ -44,4 +44,25 @@ pub fn count_row(old: &[u16], new: &[u16]) -> u32
         i += 1;
     }
     r
+}
+
+// Whether an entry is device d.
+fn is_device(e: u16, d: u32) -> bool
+    ensures { λ r. ⌜ r ≡ eqb e d ⌝ }
+{
+    e as u32 == d
+}
+
+// 1 where the row holds device d.
+pub fn holds(row: &[u16], d: u32) -> u32
+    ensures { λ r. ⌜ r ≡ cond (has d (now (row .entry))) 1 0 ⌝ }
+{
+    let mut i: usize = 0;
+    while i < row.len() {
+        if is_device(row[i], d) {
+            return 1;
+        }
+        i += 1;
+    }
+    0
 }

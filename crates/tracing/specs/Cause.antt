@@ -175,7 +175,7 @@ module _ (m : Map) (c : Change) (x : ℕ) where
       → Caused (placeAt m x k p .walk) (placeAt (put m c) x k p .walk) cause
   cause-is ind (above {k} {p} {n} {t} {cause} {mode} e lv q) l = cause-above ind k p n t cause mode e lv l (cause-is ind q (step-above m x k mode n t e lv p l))
   cause-is ind (stays {k} {p} {cause} e q) l = cause-stays k p cause e (cause-is ind q (count-stays k p e l))
-  cause-is ind (accept e h w) l = accept-cause w (here-at h)
+  cause-is ind (accept e h w j) l = accept-cause w (here-at h)
   cause-is ind (drawn h f w) l = draw-cause (here-at h) f
   cause-is ind (held-old {w} h f o g q) l = held-cause w f (here-at h)
   cause-is ind (held-new {u} h f o g q) l = cause-held u f (here-at h)

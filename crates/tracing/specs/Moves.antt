@@ -31,7 +31,7 @@ use Rattle.tracing.specs.Listed.{Emitted, placed-from, placed-place, emi
 -- ---- which moves there are
 
 -- the move of place p of group g, of which these are the old and the new
-abbrev moveOf : ℕ → ℕ → Place → Place → Move
+abbrev pub moveOf : ℕ → ℕ → Place → Place → Move
 moveOf g p a b = record { group = g; place = p; old = a .entry; new = b .entry; cause = causeOf (parting (a .walk) (b .walk)) }
 
 move-at : (g p : ℕ) (a b : Place) (v : Move) → List·Memᴰ v (moveAt g p a b) → (v ≡ moveOf g p a b) × (a .entry ≡ b .entry → ⊥)
@@ -54,7 +54,7 @@ module _ (g : ℕ) (olds news : List Place) where
   abbrev Differ : ℕ → Type 0
   Differ j = getD olds j nowhere .entry ≡ getD news j nowhere .entry → ⊥
 
-  row-move : (k : ℕ) (v : Move) → List·Memᴰ v (rowMovesTo g olds news k) → (j : ℕ) × (j < k) × (v ≡ rowMove j) × Differ j
+  pub row-move : (k : ℕ) (v : Move) → List·Memᴰ v (rowMovesTo g olds news k) → (j : ℕ) × (j < k) × (v ≡ rowMove j) × Differ j
   unfolding rowMovesTo
   row-move zero v i = elim i [ ]
   row-move (suc k) v i =
@@ -89,12 +89,12 @@ module _ (w : ℕ) (olds news : List Placed) where
       (λ (l : g < n). Memᴰ·append-left _ (row-moves n g v l i)) (eq-or-lt-of-le (omega arith))
 
 -- the runs of all groups
-runs-count : (m : Map) (n : ℕ) → length (runsTo m n) ≡ n
+pub runs-count : (m : Map) (n : ℕ) → length (runsTo m n) ≡ n
 unfolding runsTo
 runs-count m zero = refl
 runs-count m (suc n) = length-append (runsTo m n) (placedOf m n ∷ []) ∙ omega (arith, runs-count m n)
 
-runs-at : (m : Map) (n g : ℕ) → g < n → getD (runsTo m n) g nothingPlaced ≡ placedOf m g
+pub runs-at : (m : Map) (n g : ℕ) → g < n → getD (runsTo m n) g nothingPlaced ≡ placedOf m g
 unfolding runsTo
 runs-at m zero g h = absurd (omega arith)
 runs-at m (suc n) g h =

@@ -69,7 +69,8 @@ module _ (m : Map) (c : Change) (x : ℕ) where
     stays : {k p cause : ℕ} → (stepAt m k ≡ Emit) ⊎ (stepAt m k ≡ Idle) → Traced k p cause → Traced (suc k) p cause
     -- 01: after an edit of its acceptance, device d passed acceptance in one run only
     accept : {k p n d a : ℕ} {u w : Verdict} → c ≡ Acceptance d a → Here k p n (Tested d u) (Tested d w)
-        → ((u ≡ Passed) × (w ≡ Rejected)) ⊎ ((u ≡ Rejected) × (w ≡ Passed)) → Traced (suc k) p 1
+        → ((u ≡ Passed) × (w ≡ Rejected)) ⊎ ((u ≡ Rejected) × (w ≡ Passed))
+        → (u ≡ cond (accepted (viewOf m) x d) Passed Rejected) × (w ≡ cond (accepted (viewOf (put m c)) x d) Passed Rejected) → Traced (suc k) p 1
     -- 02: after an edit of weight, the draws differ, as `Won` says: in a straw bucket the winner where the device weighs more is the child
     -- that is or holds it; in a tree that run turns to its side, or alone finds a child
     drawn : {k p n b r : ℕ} {y z : Drawn} → Here k p n (Drew b r y) (Drew b r z) → (y ≡ z → ⊥) → Won m c x r b y z → Traced (suc k) p 2
@@ -103,10 +104,10 @@ not-held-verdict true e = let z : _≡_ {A = ℕ} 0 1 = cc in omega arith
 not-held-verdict false e = let z : _≡_ {A = ℕ} 0 1 = cc in omega arith
 
 -- where two walks part at the tests of an item, each has one
-at-old : {es fs : List Event} {e f : Event} → At es fs e f → List·Memᴰ e es
+pub at-old : {es fs : List Event} {e f : Event} → At es fs e f → List·Memᴰ e es
 at-old {e} a = rw (a .old-is) (Memᴰ·append-right (a .before) (List·Memᴰ·head refl))
 
-at-new : {es fs : List Event} {e f : Event} → At es fs e f → List·Memᴰ f fs
+pub at-new : {es fs : List Event} {e f : Event} → At es fs e f → List·Memᴰ f fs
 at-new a = rw (a .new-is) (Memᴰ·append-right (a .before) (List·Memᴰ·head refl))
 
 module _ (m : Map) (c : Change) (x : ℕ) (L : Loadable m) (L′ : Loadable (put m c)) (X : Edited m c x) (ind : independent m ≡ true) where
@@ -209,9 +210,9 @@ module _ (m : Map) (c : Change) (x : ℕ) (L : Loadable m) (L′ : Loadable (put
     tested h at dif false false true true e₁ e₂ f₁ f₂ u w = absurd (dif (u ∙ sym w))
     tested h at dif false false false false e₁ e₂ f₁ f₂ u w = absurd (dif (u ∙ sym w))
     tested {i} h at dif false false true false e₁ e₂ f₁ f₂ u w =
-        ⊎-elim (λ q. absurd (let z : _≡_ {A = ℕ} 0 1 = cc in omega arith)) (λ q. (1, accept (q .1) h (inl (u, w)))) (X .tests i)
+        ⊎-elim (λ q. absurd (let z : _≡_ {A = ℕ} 0 1 = cc in omega arith)) (λ q. (1, accept (q .1) h (inl (u, w)) (rw f₁ u, rw f₂ w))) (X .tests i)
     tested {i} h at dif false false false true e₁ e₂ f₁ f₂ u w =
-        ⊎-elim (λ q. absurd (let z : _≡_ {A = ℕ} 0 1 = cc in omega arith)) (λ q. (1, accept (q .1) h (inr (u, w)))) (X .tests i)
+        ⊎-elim (λ q. absurd (let z : _≡_ {A = ℕ} 0 1 = cc in omega arith)) (λ q. (1, accept (q .1) h (inr (u, w)) (rw f₁ u, rw f₂ w))) (X .tests i)
 
     parted : {f g : Event} → Apart v₁ v₂ x h₁ h₂ f g → H f g → A f g → (cause : ℕ) × Tr (suc k) p cause
     unfolding verdictOf
@@ -314,7 +315,7 @@ module _ (m : Map) (c : Change) (x : ℕ) where
   pub root : {k p cause : ℕ} → Traced m c x k p cause → (l : ℕ) × (q : ℕ) × Leads l q k p × (Traced m c x l q 1 ⊎ Traced m c x l q 2)
   root (above e lv t) = let (l, q, g, r) = root t in (l, q, to-above e g, r)
   root (stays e t) = let (l, q, g, r) = root t in (l, q, to-same e g, r)
-  root (accept {k} {p} e h w) = (suc k, p, ends, inl (accept e h w))
+  root (accept {k} {p} e h w j) = (suc k, p, ends, inl (accept e h w j))
   root (drawn {k} {p} h f w) = (suc k, p, ends, inr (drawn h f w))
   root (held-old {l = o} {q = s} h f a b t) = let (l, q, g, r) = root t in (l, q, to-before (a .before) (λ e. b o s (a .before) (sym e ∙ a .holds)) g, r)
   root (held-new {l = o} {q = s} h f a b t) = let (l, q, g, r) = root t in (l, q, to-before (a .before) (λ e. b o s (a .before) (e ∙ a .holds)) g, r)
@@ -323,7 +324,7 @@ module _ (m : Map) (c : Change) (x : ℕ) where
   pub cause-range : {k p cause : ℕ} → Traced m c x k p cause → (1 ≤ cause) × (cause ≤ 3)
   cause-range (above e lv t) = cause-range t
   cause-range (stays e t) = cause-range t
-  cause-range (accept e h w) = (omega arith, omega arith)
+  cause-range (accept e h w j) = (omega arith, omega arith)
   cause-range (drawn h f w) = (omega arith, omega arith)
   cause-range (held-old h f a b t) = (omega arith, omega arith)
   cause-range (held-new h f a b t) = (omega arith, omega arith)
@@ -332,7 +333,7 @@ module _ (m : Map) (c : Change) (x : ℕ) where
   pub accept-only : {k p cause : ℕ} → Traced m c x k p cause → cause ≡ 1 → (d : ℕ) × (a : ℕ) × (c ≡ Acceptance d a)
   accept-only (above e lv t) q = accept-only t q
   accept-only (stays e t) q = accept-only t q
-  accept-only (accept {d} {a} e h w) q = (d, a, e)
+  accept-only (accept {d} {a} e h w j) q = (d, a, e)
   accept-only (drawn h f w) q = absurd (omega arith)
   accept-only (held-old h f a b t) q = absurd (omega arith)
   accept-only (held-new h f a b t) q = absurd (omega arith)
@@ -341,7 +342,7 @@ module _ (m : Map) (c : Change) (x : ℕ) where
   pub drawn-only : {k p cause : ℕ} → Traced m c x k p cause → cause ≡ 2 → (d : ℕ) × (w : ℕ) × (c ≡ Weight d w)
   drawn-only (above e lv t) q = drawn-only t q
   drawn-only (stays e t) q = drawn-only t q
-  drawn-only (accept e h w) q = absurd (omega arith)
+  drawn-only (accept e h w j) q = absurd (omega arith)
   drawn-only (drawn h f w) q = won-edit w
   drawn-only (held-old h f a b t) q = absurd (omega arith)
   drawn-only (held-new h f a b t) q = absurd (omega arith)

@@ -1,11 +1,14 @@
 // Compares the engine with a CRUSH by another hand. The file `cases` of data/ holds maps with edits and what that CRUSH gave for each:
 // the rows as program `fill` prints them, a frame `12` with the tries (8) behind each row of a group below 64, what each edit prints, and
-// the map that is left; or the one refusal of load or fill.
+// the map that is left; or the one refusal of load or fill. Beside each edit of an acceptance stands its ceiling.
+mod limits;
+
 ghost use mathlib.Core.Path.{_≡_};
 ghost use Prim.Native.Nat.{_+_, _*_, _≤_};
 ghost use lib.ListN.{length};
 use frames::digits;
 use libc::STDOUT_FILENO;
+use limits::Limits;
 use report::edits;
 use report::edits::Line;
 
@@ -15,18 +18,32 @@ const LOST: usize = usize::MAX;
 // Tries are compared for the groups below this.
 const TRIED: u32 = 64;
 
-// The edits of a case: the line under way, and how many of the bytes wanted were met.
+// The edits of a case: the line under way, how many of the bytes wanted were met, and the ceilings.
 struct Step {
     line: Line,
     at: usize,
+    limits: Limits,
 }
 
-// How many cases were read, how many of them were wrong, the number of the first of these, or 0, and whether the file has ended.
+// What came of a case: how many of the bytes wanted were met, and the ceilings.
+struct Met {
+    at: usize,
+    limits: Limits,
+}
+
+// Whether a case is right, and the ceilings.
+struct Judged {
+    right: bool,
+    limits: Limits,
+}
+
+// How many cases were read, how many of them were wrong, the number of the first of these, or 0, whether the file has ended, and the ceilings.
 struct Tally {
     cases: u64,
     wrong: u64,
     first: u64,
     ended: bool,
+    limits: Limits,
 }
 
 fn wide(x: u32) -> usize
@@ -196,15 +213,19 @@ fn take_byte(
     b: u8,
     space: &mut [u8],
     want: &[u8],
+    case: u64,
 ) -> Step
     requires { ⌜ (5 ≤ length (now space)) × (s .line .count ≤ 15) ⌝ }
     ensures { λ r. ⌜ r .line .count ≤ 15 ⌝ }
 {
     let l = s.line;
+    let before = limits::before_byte(map, table, l, b);
     let turn = edits::on_byte(map, table, l, b, space);
     let at = front_agrees(space, turn.printed, want, s.at);
     let line = turn.line;
-    Step { line, at }
+    let so_far = s.limits;
+    let limits = limits::after(map, table, before, turn.printed, case, so_far);
+    Step { line, at, limits }
 }
 
 fn take_bytes(
@@ -214,6 +235,7 @@ fn take_bytes(
     given: &[u8],
     space: &mut [u8],
     want: &[u8],
+    case: u64,
 ) -> Step
     requires { ⌜ (5 ≤ length (now space)) × (first .line .count ≤ 15) ⌝ }
     ensures { λ r. ⌜ r .line .count ≤ 15 ⌝ }
@@ -221,20 +243,50 @@ fn take_bytes(
     let mut s = first;
     let mut i: usize = 0;
     while i < given.len() {
-        s = take_byte(map, table, s, given[i], space, want);
+        s = take_byte(map, table, s, given[i], space, want, case);
         i += 1;
     }
     s
 }
 
+// The end of the edits: a last line that is not ended is one too.
+fn end_agrees(
+    map: &mut [u8],
+    table: &mut [u16],
+    s: Step,
+    space: &mut [u8],
+    want: &[u8],
+    case: u64,
+) -> Met
+    requires { ⌜ (5 ≤ length (now space)) × (s .line .count ≤ 15) ⌝ }
+{
+    let l = s.line;
+    let before = limits::before_line(map, table, l);
+    let printed = edits::on_end(map, table, l, space);
+    let at = front_agrees(space, printed, want, s.at);
+    let so_far = s.limits;
+    let limits = limits::after(map, table, before, printed, case, so_far);
+    Met { at, limits }
+}
+
 // All edits, with the 64 KiB that `fill` lends to the moves.
-fn edits_agree(map: &mut [u8], table: &mut [u16], given: &[u8], want: &[u8], at: usize) -> usize {
+fn edits_agree(
+    map: &mut [u8],
+    table: &mut [u16],
+    given: &[u8],
+    want: &[u8],
+    first: Met,
+    case: u64,
+) -> Met {
     let mut space = io::large_buffer();
-    let line = edits::no_line();
-    let last = take_bytes(map, table, Step { line, at }, given, &mut space, want);
-    let l = last.line;
-    let printed = edits::on_end(map, table, l, &mut space);
-    front_agrees(&space, printed, want, last.at)
+    let limits = first.limits;
+    let begun = Step {
+        line: edits::no_line(),
+        at: first.at,
+        limits,
+    };
+    let last = take_bytes(map, table, begun, given, &mut space, want, case);
+    end_agrees(map, table, last, &mut space, want, case)
 }
 
 // The map as it is written.
@@ -262,6 +314,13 @@ fn same_places(a: &[u16], b: &[u16]) -> bool {
     true
 }
 
+fn lost(t: Limits) -> Met {
+    Met {
+        at: LOST,
+        limits: t,
+    }
+}
+
 // Is the table what filling gives?
 fn is_fresh(map: &[u8], table: &[u16]) -> bool {
     let mut fresh = table_space();
@@ -276,36 +335,62 @@ fn size(groups: u32, w: usize) -> usize
     wide(groups) * w
 }
 
-// All that the engine answers to a map and its edits. The edited map loads, and the edited table is what filling it gives.
-fn answers_agree(map: &mut [u8], given: &[u8], groups: u32, w: usize, want: &[u8]) -> usize {
+// What is left of a case whose edits were met so far: the edited map loads, and the edited table is what filling it gives.
+fn left_agrees(map: &[u8], table: &[u16], want: &[u8], at: usize) -> usize {
+    if engine::load::load(map) != 0 {
+        return LOST;
+    }
+    if !is_fresh(map, table) {
+        return LOST;
+    }
+    written_agrees(map, want, at)
+}
+
+// All that the engine answers to a map and its edits; t are the ceilings so far.
+fn answers_agree(
+    map: &mut [u8],
+    given: &[u8],
+    groups: u32,
+    w: usize,
+    want: &[u8],
+    case: u64,
+    t: Limits,
+) -> Met {
     let number = engine::load::load(map);
     if number != 0 {
-        return refusal_agrees(number, want);
+        return Met {
+            at: refusal_agrees(number, want),
+            limits: t,
+        };
     }
     let mut table = table_space();
     let filled = engine::fill::fill(map, &mut table);
     if filled.number != 0 {
-        return refusal_agrees(filled.number, want);
+        return Met {
+            at: refusal_agrees(filled.number, want),
+            limits: t,
+        };
     }
     if w > 32 {
-        return LOST;
+        return lost(t);
     }
     let places = size(groups, w);
     if places > 32768 {
-        return LOST;
+        return lost(t);
     }
     if filled.places != places {
-        return LOST;
+        return lost(t);
     }
-    let rows = table_agrees(map, &table, groups, w, want);
-    let edited = edits_agree(map, &mut table, given, want, rows);
-    if engine::load::load(map) != 0 {
-        return LOST;
+    let rows = Met {
+        at: table_agrees(map, &table, groups, w, want),
+        limits: t,
+    };
+    let edited = edits_agree(map, &mut table, given, want, rows, case);
+    let limits = edited.limits;
+    Met {
+        at: left_agrees(map, &table, want, edited.at),
+        limits,
     }
-    if !is_fresh(map, &table) {
-        return LOST;
-    }
-    written_agrees(map, want, edited)
 }
 
 // Fills the first n bytes of a space from the file.
@@ -322,51 +407,101 @@ fn number(head: &[u8; 41], at: usize) -> usize
     wide(digits::field(head, at, 8))
 }
 
-// Reads what follows a case's first line, and answers whether the case is right.
-fn is_right(fd: i32, head: &[u8; 41], map: &mut [u8], given: &mut [u8], want: &mut [u8]) -> bool {
-    let m = number(head, 0);
-    let e = number(head, 8);
-    let n = number(head, 16);
-    let groups = digits::field(head, 24, 8);
-    let w = number(head, 32);
-    if m > map.len() {
-        return false;
-    }
-    if e > given.len() {
-        return false;
-    }
-    if n > want.len() {
-        return false;
-    }
+// The same for the map, the edits and the answer of a case.
+fn read_all(
+    fd: i32,
+    map: &mut [u8],
+    m: usize,
+    given: &mut [u8],
+    e: usize,
+    want: &mut [u8],
+    n: usize,
+) -> bool
+    requires { ⌜ (m ≤ length (now map)) × (e ≤ length (now given)) × (n ≤ length (now want)) ⌝ }
+{
     if !read_front(fd, map, m) {
         return false;
     }
     if !read_front(fd, given, e) {
         return false;
     }
-    if !read_front(fd, want, n) {
-        return false;
+    read_front(fd, want, n)
+}
+
+// Whether a case that was read is right.
+fn judge_read(
+    map: &mut [u8],
+    given: &[u8],
+    groups: u32,
+    w: usize,
+    want: &[u8],
+    case: u64,
+    t: Limits,
+) -> Judged {
+    let met = answers_agree(map, given, groups, w, want, case, t);
+    let limits = met.limits;
+    Judged {
+        right: met.at == want.len(),
+        limits,
     }
-    answers_agree(&mut map[..m], &given[..e], groups, w, &want[..n]) == n
+}
+
+// A case that cannot be read.
+fn unread(t: Limits) -> Judged {
+    Judged {
+        right: false,
+        limits: t,
+    }
+}
+
+// Reads what follows a case's first line, and answers whether the case is right.
+fn judge(
+    fd: i32,
+    head: &[u8; 41],
+    map: &mut [u8],
+    given: &mut [u8],
+    want: &mut [u8],
+    case: u64,
+    t: Limits,
+) -> Judged {
+    let m = number(head, 0);
+    let e = number(head, 8);
+    let n = number(head, 16);
+    let groups = digits::field(head, 24, 8);
+    let w = number(head, 32);
+    if m > map.len() {
+        return unread(t);
+    }
+    if e > given.len() {
+        return unread(t);
+    }
+    if n > want.len() {
+        return unread(t);
+    }
+    if !read_all(fd, map, m, given, e, want, n) {
+        return unread(t);
+    }
+    judge_read(&mut map[..m], &given[..e], groups, w, &want[..n], case, t)
 }
 
 // A tally with one case more.
-fn counted(t: Tally, right: bool) -> Tally {
-    let cases = std::num::wrapping_add_u64(t.cases, 1);
-    if right {
+fn counted(t: Tally, case: u64, j: Judged) -> Tally {
+    let limits = j.limits;
+    if j.right {
         return Tally {
-            cases,
+            cases: case,
             wrong: t.wrong,
             first: t.first,
             ended: false,
+            limits,
         };
     }
-    let first = if t.wrong == 0 { cases } else { t.first };
     Tally {
-        cases,
+        cases: case,
         wrong: std::num::wrapping_add_u64(t.wrong, 1),
-        first,
+        first: if t.wrong == 0 { case } else { t.first },
         ended: false,
+        limits,
     }
 }
 
@@ -374,15 +509,19 @@ fn counted(t: Tally, right: bool) -> Tally {
 fn count_case(fd: i32, t: Tally, map: &mut [u8], given: &mut [u8], want: &mut [u8]) -> Tally {
     let mut head = [0u8; 41];
     let n = io::read_full(fd, &mut head);
+    let limits = t.limits;
     if n == 0 {
         return Tally {
             cases: t.cases,
             wrong: t.wrong,
             first: t.first,
             ended: true,
+            limits,
         };
     }
-    counted(t, is_right(fd, &head, map, given, want))
+    let case = std::num::wrapping_add_u64(t.cases, 1);
+    let judged = judge(fd, &head, map, given, want, case, limits);
+    counted(t, case, judged)
 }
 
 // Reads on to the file's end. A proved loop has to end, and nothing says that the file does: the turns are counted down from a number
@@ -393,6 +532,7 @@ fn count_cases(fd: i32, map: &mut [u8], given: &mut [u8], want: &mut [u8]) -> Ta
         wrong: 0,
         first: 0,
         ended: false,
+        limits: limits::none(),
     };
     let mut turns = u64::MAX;
     while turns > 0 {
@@ -405,16 +545,34 @@ fn count_cases(fd: i32, map: &mut [u8], given: &mut [u8], want: &mut [u8]) -> Ta
     t
 }
 
+// A number, and the words behind it.
+fn print_number(n: u64, words: &[u8]) {
+    io::print_decimal(STDOUT_FILENO, n);
+    io::write_all(STDOUT_FILENO, words);
+}
+
+fn print_limits(t: Limits) {
+    let tightest = t.tightest;
+    print_number(t.edits, b" edits of an acceptance, ");
+    print_number(t.above, b" above their ceiling; ");
+    print_number(t.moves, b" moves of at most ");
+    print_number(t.most, b"; the tightest: ");
+    print_number(tightest.moves as u64, b" of ");
+    print_number(tightest.ceiling as u64, b" at width ");
+    print_number(tightest.width as u64, b", case ");
+    print_number(tightest.case, b"\n");
+}
+
 fn print(t: Tally) {
-    io::print_decimal(STDOUT_FILENO, t.cases);
-    io::write_all(STDOUT_FILENO, b" cases, ");
-    io::print_decimal(STDOUT_FILENO, t.wrong);
-    io::write_all(STDOUT_FILENO, b" wrong");
+    print_number(t.cases, b" cases, ");
+    print_number(t.wrong, b" wrong");
     if t.wrong != 0 {
         io::write_all(STDOUT_FILENO, b", first the one of number ");
         io::print_decimal(STDOUT_FILENO, t.first);
     }
     io::write_all(STDOUT_FILENO, b"\n");
+    let limits = t.limits;
+    print_limits(limits);
 }
 
 fn main() {

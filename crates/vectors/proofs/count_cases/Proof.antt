@@ -11,6 +11,9 @@ Inv-loop fd map₀ given₀ want₀ t₀ turns₀ map given want t turns = (leng
 abbrev μ-loop : tie.MeasureT-loop
 μ-loop fd map₀ given₀ want₀ t₀ turns₀ map given want t turns = turns
 
+none-requires : tie.Need-none-requires Inv-loop μ-loop
+none-requires c κs = search needs
+
 loop-holds : tie.Need-loop-holds Inv-loop μ-loop
 loop-holds c = search needs
 
@@ -56,6 +59,7 @@ count-cases-spec =
     (tie.spec
     Inv-loop
     μ-loop
+    none-requires
     loop-holds
     count-case-requires
     same-length

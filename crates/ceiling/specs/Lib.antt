@@ -1,0 +1,4 @@
+pub mod Passed
+pub mod Source
+pub mod Ceiling
+pub mod Rows
