@@ -2,7 +2,7 @@
 -- drive before the edit, and raising it only in groups whose list holds it afterwards. Moves are then at most W times the number of those
 -- groups." Of a loadable map that 17 admits, and an edit that fits. Assumes nothing.
 use mathlib.Core.Path.{_≡_, refl, sym, ap, _∙_, subst}
-use mathlib.Core.Bool.{Bool, true, false, cond, _||_, false≢true}
+use mathlib.Core.Bool.{Bool, true, false, cond, false≢true}
 use mathlib.Core.List.{List, [], _∷_, _++_, List·Memᴰ, List·Memᴰ·head, Memᴰ·append-left, Memᴰ·append-right}
 use mathlib.Core.Logic.{⊎-elim}
 use Prim.Native.Nat.{ℕ, zero, suc, _+_, _*_, _%_, _<_, _≤_}
@@ -10,7 +10,7 @@ use native.Mathlib.Omega.{arith}
 use native.Mathlib.Nat.{mul-add}
 use lib.Dec.{leb, eqb}
 use lib.ListN.{length, getD, length-append}
-use borrow.Author.Tests.{eqb-true, eq-eqb, ltb-true, lt-ltb, lt-leb}
+use borrow.Author.Tests.{eq-eqb, ltb-true, lt-ltb, lt-leb}
 use Rattle.definitions.specs.declared.Verdict.the-variants.{Rejected, Passed}
 use Rattle.definitions.specs.declared.Event.the-variants.{Tested}
 use Rattle.definitions.specs.declared.Change.{Change}
@@ -33,7 +33,7 @@ use Rattle.laws.specs.Lists.{both}
 use Rattle.laws.specs.Loadable.{Loadable, put-loadable, put-groups, put-width, put-acceptance}
 use Rattle.laws.specs.Found.{device-number}
 use Rattle.tracing.specs.Edited.{put-step, put-independent}
-use Rattle.tracing.specs.Traced.{at-old, at-new}
+use Rattle.tracing.specs.Traced.{judge, at-old, at-new}
 use Rattle.tracing.specs.Moves.{moveOf, row-move, runs-count, moves-traced}
 use Rattle.ceiling.specs.Source.{in-list, Source, source}
 
@@ -49,11 +49,11 @@ unfolding accepted deviceAccepts
 accepted-more v w x d p s l e =
     rw (lt-leb 65536 d s) (accepts-more _ (v .acceptance d) (w .acceptance d) l (subst (λ (o : ℕ). accepts (hash2 o x d) (v .acceptance d) ≡ true) p (rw (lt-leb 65536 d s) at e)))
 
-passed-accepted : (b : Bool) → Passed ≡ cond b Passed Rejected → b ≡ true
+passed-accepted : (b : Bool) → Passed ≡ judge b → b ≡ true
 passed-accepted true e = refl
 passed-accepted false e = absurd (let z : _≡_ {A = ℕ} 0 1 = cc in omega arith)
 
-rejected-not : (b : Bool) → Rejected ≡ cond b Passed Rejected → b ≡ true → ⊥
+rejected-not : (b : Bool) → Rejected ≡ judge b → b ≡ true → ⊥
 rejected-not true e q = let z : _≡_ {A = ℕ} 0 1 = cc in omega arith
 rejected-not false e q = false≢true q
 

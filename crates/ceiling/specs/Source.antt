@@ -4,7 +4,7 @@ use mathlib.Core.Path.{_≡_, refl, sym, ap, _∙_, subst}
 use mathlib.Core.Bool.{Bool, true, false, cond}
 use mathlib.Core.List.{List, [], _++_, List·Memᴰ, Memᴰ·append-right, Memᴰ·map, append-cancel-left}
 use mathlib.Core.Logic.{_⊎_, ⊎-elim}
-use Prim.Native.Nat.{ℕ, suc, _+_, _*_, _/_, _%_, _<_}
+use Prim.Native.Nat.{ℕ, suc, _+_, _/_, _%_, _<_}
 use native.Mathlib.Omega.{arith}
 use native.Mathlib.Decide.{decLt}
 use borrow.Author.Tests.{ltb-true}
@@ -37,7 +37,7 @@ use Rattle.laws.specs.Forest.{type-device}
 use Rattle.laws.specs.Found.{rank-found}
 use Rattle.tracing.specs.Runs.{leaves, noRank, rankUnder, stepAt, workingAt, listAt, placeAt, step-place, place-past}
 use Rattle.tracing.specs.Edited.{won-edit}
-use Rattle.tracing.specs.Traced.{Here, Traced, above, stays, accept, drawn, held-old, held-new}
+use Rattle.tracing.specs.Traced.{judge, Here, Traced, above, stays, accept, drawn, held-old, held-new}
 use Rattle.tracing.specs.Listed.{Emitted, placed-place}
 use Rattle.ceiling.specs.Passed.{passed-fills}
 
@@ -136,7 +136,7 @@ pub record Source (m : Map) (c : Change) (x d : ℕ) : Type 0 where
   pub w : Verdict
   pub here : Here m c x k p n (Tested d u) (Tested d w)
   pub ends : ((u ≡ Passed) × (w ≡ Rejected)) ⊎ ((u ≡ Rejected) × (w ≡ Passed))
-  pub judged : (u ≡ cond (accepted (viewOf m) x d) Passed Rejected) × (w ≡ cond (accepted (viewOf (put m c)) x d) Passed Rejected)
+  pub judged : (u ≡ judge (accepted (viewOf m) x d)) × (w ≡ judge (accepted (viewOf (put m c)) x d))
 
 -- every traced place leads there: 02 needs an edit of a weight
 pub source : (m : Map) (c : Change) (x d a : ℕ) → c ≡ Acceptance d a → {k p cause : ℕ} → Traced m c x k p cause → Source m c x d

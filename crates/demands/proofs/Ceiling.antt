@@ -1,6 +1,6 @@
 -- Document 02, change 7, "How much will a dead drive move?", over the contracts of load, fill, edit and ceiling: at any point of a list of calls of
 -- edit from the map and the table as load and fill leave them.
-use mathlib.Core.Path.{_≡_, ap, _∙_, subst}
+use mathlib.Core.Path.{_≡_, ap, _∙_}
 use mathlib.Core.Bool.{true}
 use mathlib.Core.List.{List}
 use Prim.Native.Nat.{ℕ, _≤_}

@@ -3,7 +3,7 @@
 use mathlib.Core.Path.{_≡_, refl, sym, ap, _∙_, subst}
 use mathlib.Core.Bool.{true}
 use mathlib.Core.List.{List, [], _∷_}
-use Prim.Native.Nat.{ℕ, _≤_}
+use Prim.Native.Nat.{ℕ}
 use native.Mathlib.Omega.{arith}
 use lib.ListN.{replicate}
 use Rattle.definitions.specs.declared.Change.the-variants.{Acceptance}
@@ -15,7 +15,7 @@ use Rattle.definitions.specs.Open.{computing}
 use Rattle.samples.specs.Reached.{alive, dead, alive-table, dead-table, dies, returns, space, died, returned, ceiling-alive}
 use Rattle.history.specs.Ceiling.{Within}
 use Rattle.demands.proofs.Contracts.{EditCall, callOf, CeilingCall, ceilingAnswered}
-use Rattle.demands.proofs.Demand3.{Start, EditRun, empty}
+use Rattle.demands.proofs.Demand3.{Start, empty}
 use Rattle.demands.proofs.Ceiling.{lowering-moves, raising-moves}
 use Rattle.demands.proofs.Instance.{Lending, loadCall, fillCall, editCall, ceilingCall, starts, answers}
 

@@ -5,7 +5,7 @@ use mathlib.Core.List.{List, [], _∷_, _++_}
 use Prim.Native.Nat.{ℕ}
 use lib.ListN.{replicate}
 use Rattle.definitions.specs.Frames.{hex}
-use Rattle.definitions.specs.Calls.{EditAnswer, editOf, ceilingOf}
+use Rattle.definitions.specs.Calls.{editOf, ceilingOf}
 use Rattle.definitions.specs.Open.{computing}
 use Rattle.samples.specs.Samples.{line}
 

@@ -2,13 +2,10 @@
 -- of them. Assumes nothing.
 use mathlib.Core.Path.{_≡_, refl, sym, ap, ap₂, _∙_}
 use mathlib.Core.Bool.{true}
-use mathlib.Core.List.{List, [], _∷_, _++_}
-use mathlib.Core.Logic.{⊎-elim}
-use Prim.Native.Nat.{ℕ, zero, suc, _*_, _<_, _≤_}
+use mathlib.Core.List.{List, _++_}
+use Prim.Native.Nat.{ℕ, zero, suc, _*_, _≤_}
 use native.Mathlib.Omega.{arith}
-use native.Mathlib.Nat.{eq-or-lt-of-le}
-use lib.ListN.{length, getD, take, length-append, List·getD-append}
-use lib.Seq.{getD-at}
+use lib.ListN.{length, take}
 use Rattle.definitions.specs.declared.Action.{Action}
 use Rattle.definitions.specs.Lists.{every, same, joined}
 use Rattle.definitions.specs.Map.{Map, actionsOf}
@@ -16,7 +13,7 @@ use Rattle.definitions.specs.View.{View, viewOf}
 use Rattle.definitions.specs.Select.{Place, entriesOf}
 use Rattle.definitions.specs.Rule.{runTo, widthOf, padded, placedBy, placedOf}
 use Rattle.definitions.specs.Table.{runsTo, runsOf, rowIn, tableIn, tableOf}
-use Rattle.definitions.specs.Edit.{rowMoves, nothingPlaced, movesTo, movesIn, movesOf}
+use Rattle.definitions.specs.Edit.{rowMoves, movesTo, movesIn, movesOf}
 use Rattle.definitions.specs.Calls.{notFirstN, independent, fresh}
 use Rattle.laws.specs.Loadable.{Loadable, ranged-is}
 use Rattle.hierarchy.specs.declared.Rule.{Rule}

@@ -37,6 +37,10 @@ use Rattle.tracing.specs.Held.{Before, own, listed, heldOf, OnlyAt, Nowh
 use Rattle.tracing.specs.Parting.{At, Apart, draws, tests, held, Parts, rank-parts}
 use Rattle.tracing.specs.Edited.{Won, won-edit, Edited, edited, put-types, put-step, put-stays, put-count, put-independent}
 
+-- how the test of a device that nothing holds ends
+abbrev pub judge : Bool → Verdict
+judge b = cond b Passed Rejected
+
 -- an edit c of map m, and the group x
 module _ (m : Map) (c : Change) (x : ℕ) where
   -- place p of the working list after k steps, on the map before the edit
@@ -67,10 +71,10 @@ module _ (m : Map) (c : Change) (x : ℕ) where
     above : {k p n t cause : ℕ} {mode : Mode} → stepAt m k ≡ Select mode n t → leaves mode ≡ true → Traced k (p / n) cause → Traced (suc k) p cause
     -- an emit, or no step at all, leaves the working list as it is
     stays : {k p cause : ℕ} → (stepAt m k ≡ Emit) ⊎ (stepAt m k ≡ Idle) → Traced k p cause → Traced (suc k) p cause
-    -- 01: after an edit of its acceptance, device d passed acceptance in one run only
+    -- 01: after an edit of its acceptance, device d passed acceptance in one run only, as `accepted` says of each
     accept : {k p n d a : ℕ} {u w : Verdict} → c ≡ Acceptance d a → Here k p n (Tested d u) (Tested d w)
         → ((u ≡ Passed) × (w ≡ Rejected)) ⊎ ((u ≡ Rejected) × (w ≡ Passed))
-        → (u ≡ cond (accepted (viewOf m) x d) Passed Rejected) × (w ≡ cond (accepted (viewOf (put m c)) x d) Passed Rejected) → Traced (suc k) p 1
+        → (u ≡ judge (accepted (viewOf m) x d)) × (w ≡ judge (accepted (viewOf (put m c)) x d)) → Traced (suc k) p 1
     -- 02: after an edit of weight, the draws differ, as `Won` says: in a straw bucket the winner where the device weighs more is the child
     -- that is or holds it; in a tree that run turns to its side, or alone finds a child
     drawn : {k p n b r : ℕ} {y z : Drawn} → Here k p n (Drew b r y) (Drew b r z) → (y ≡ z → ⊥) → Won m c x r b y z → Traced (suc k) p 2
@@ -210,9 +214,9 @@ module _ (m : Map) (c : Change) (x : ℕ) (L : Loadable m) (L′ : Loadable (put
     tested h at dif false false true true e₁ e₂ f₁ f₂ u w = absurd (dif (u ∙ sym w))
     tested h at dif false false false false e₁ e₂ f₁ f₂ u w = absurd (dif (u ∙ sym w))
     tested {i} h at dif false false true false e₁ e₂ f₁ f₂ u w =
-        ⊎-elim (λ q. absurd (let z : _≡_ {A = ℕ} 0 1 = cc in omega arith)) (λ q. (1, accept (q .1) h (inl (u, w)) (rw f₁ u, rw f₂ w))) (X .tests i)
+        ⊎-elim (λ q. absurd (let z : _≡_ {A = ℕ} 0 1 = cc in omega arith)) (λ q. (1, accept (q .1) h (inl (u, w)) (u ∙ ap judge (sym f₁), w ∙ ap judge (sym f₂)))) (X .tests i)
     tested {i} h at dif false false false true e₁ e₂ f₁ f₂ u w =
-        ⊎-elim (λ q. absurd (let z : _≡_ {A = ℕ} 0 1 = cc in omega arith)) (λ q. (1, accept (q .1) h (inr (u, w)) (rw f₁ u, rw f₂ w))) (X .tests i)
+        ⊎-elim (λ q. absurd (let z : _≡_ {A = ℕ} 0 1 = cc in omega arith)) (λ q. (1, accept (q .1) h (inr (u, w)) (u ∙ ap judge (sym f₁), w ∙ ap judge (sym f₂)))) (X .tests i)
 
     parted : {f g : Event} → Apart v₁ v₂ x h₁ h₂ f g → H f g → A f g → (cause : ℕ) × Tr (suc k) p cause
     unfolding verdictOf

@@ -1,7 +1,6 @@
 // Document 02, change 7, of the edits in the cases: the moves of each edit of an acceptance beside its ceiling.
 ghost use mathlib.Core.Path.{_≡_};
 ghost use Prim.Native.Nat.{_*_, _≤_};
-ghost use lib.ListN.{length};
 use definitions::Change;
 use engine::limit;
 use engine::limit::Limit;

@@ -1,7 +1,6 @@
 -- `vectors::limits::acceptance_of` is safe and ends: the bytes not yet read get fewer. Assumes nothing.
 use mathlib.Core.Path.{_≡_}
-use Prim.Native.Nat.{_-_, _≤_}
-use native.Mathlib.Omega.{arith}
+use Prim.Native.Nat.{_-_}
 use borrow.Author.Needs.{needs}
 use lib.ListN.{length}
 use Rattle.vectors.proofs.limits.acceptance_of.Statement.{statement}
