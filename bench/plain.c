@@ -701,6 +701,17 @@ static int independent(const struct map *m) {
     return 1;
 }
 
+/* Questions 14, 16 and 17, in their order. */
+static uint32_t asked(struct map *m, const uint8_t *text, size_t len, size_t table_len) {
+    if (read_map(m, text, len) != 0)
+        return 14;
+    if (table_len < (size_t)m->groups * m->width)
+        return 16;
+    return independent(m) ? 0 : 17;
+}
+
+static int has_device(const struct map *m, uint32_t device) { return device < DEVICES && m->device[device]; }
+
 static int edit_formed(const uint8_t *frame, size_t len) {
     for (size_t i = 0; i < len; i++)
         if (digit(frame[i]) < 0)
@@ -721,21 +732,13 @@ static void put_move(uint8_t *to, uint32_t group, uint32_t place, uint32_t old, 
 struct plain_made plain_edit(uint8_t *text, size_t len, uint16_t *table, size_t table_len, const uint8_t *frame, size_t frame_len, uint8_t *space,
                              size_t space_len) {
     static struct map m;
-    struct plain_made r = {0, 0};
-    if (read_map(&m, text, len) != 0) {
-        r.number = 14;
-        return r;
-    }
-    size_t places = (size_t)m.groups * m.width;
-    if (table_len < places)
-        r.number = 16;
-    else if (!independent(&m))
-        r.number = 17;
-    else if (!edit_formed(frame, frame_len) || field(frame + 2, 4) >= DEVICES || !m.device[field(frame + 2, 4)] ||
-             field(frame + 6, 8) > (kind_of(frame) == 0x21 ? 65536u : 65535u))
+    struct plain_made r = {asked(&m, text, len, table_len), 0};
+    if (r.number == 0 && (!edit_formed(frame, frame_len) || !has_device(&m, field(frame + 2, 4)) ||
+                          field(frame + 6, 8) > (kind_of(frame) == 0x21 ? 65536u : 65535u)))
         r.number = 18;
     if (r.number != 0)
         return r;
+    size_t places = (size_t)m.groups * m.width;
     uint32_t device = field(frame + 2, 4), value = field(frame + 6, 8), moves = 0;
     int weight = kind_of(frame) == 0x22;
     uint16_t *fresh = malloc(places * sizeof *fresh);
@@ -785,20 +788,12 @@ static uint32_t holders(const struct map *m, const uint16_t *table, uint32_t dev
 
 struct plain_limit plain_ceiling(const uint8_t *text, size_t len, const uint16_t *table, size_t table_len, uint32_t device) {
     static struct map m;
-    struct plain_limit r = {0, 0, 0};
-    if (read_map(&m, text, len) != 0) {
-        r.number = 14;
-        return r;
-    }
-    size_t places = (size_t)m.groups * m.width;
-    if (table_len < places)
-        r.number = 16;
-    else if (!independent(&m))
-        r.number = 17;
-    else if (device >= DEVICES || !m.device[device])
+    struct plain_limit r = {asked(&m, text, len, table_len), 0, 0};
+    if (r.number == 0 && !has_device(&m, device))
         r.number = 18;
     if (r.number != 0)
         return r;
+    size_t places = (size_t)m.groups * m.width;
     uint16_t *fresh = malloc(places * sizeof *fresh);
     if (fresh == NULL)
         abort();
