@@ -57,6 +57,10 @@ rejected-not : (b : Bool) → Rejected ≡ judge b → b ≡ true → ⊥
 rejected-not true e q = let z : _≡_ {A = ℕ} 0 1 = cc in omega arith
 rejected-not false e q = false≢true q
 
+none : (vs : List Move) → ((v : Move) → List·Memᴰ v vs → ⊥) → vs ≡ []
+none [] f = refl
+none (v ∷ vs) f = absurd (f v (List·Memᴰ·head refl))
+
 module _ (m : Map) (d a : ℕ) (L : Loadable m) (ind : independent m ≡ true) (f : fits m (Acceptance d a) ≡ true) where
   abbrev c : Change
   c = Acceptance d a
@@ -89,29 +93,41 @@ module _ (m : Map) (d a : ℕ) (L : Loadable m) (ind : independent m ≡ true) (
       in-list m′ (put-loadable m c L f) (put-independent m c ∙ ind) x (s .k) (s .p) (s .n) (h .wanted) d (h .mode) (put-step m c (s .k) _ (h .step)) (h .leaves-holes) small (h .news) (h .new-is)
       (subst (λ (o : Verdict). List·Memᴰ (Tested d o) (h .news)) q (at-new (h .at)))
 
+  -- a test that one run alone passes is made there by the greater acceptance
+  old-passes : (x : ℕ) (s : Source m c x d) → (s .u ≡ Passed) × (s .w ≡ Rejected) → viewOf m .acceptance d ≤ viewOf m′ .acceptance d → ⊥
+  unfolding viewOf
+  old-passes x s q l =
+      rejected-not (accepted (viewOf m′) x d) (sym (q .1) ∙ s .judged .1)
+      (accepted-more (viewOf m) (viewOf m′) x d refl (omega (arith, small)) l (passed-accepted (accepted (viewOf m) x d) (sym (q .0) ∙ s .judged .0)))
+
+  new-passes : (x : ℕ) (s : Source m c x d) → (s .u ≡ Rejected) × (s .w ≡ Passed) → viewOf m′ .acceptance d ≤ viewOf m .acceptance d → ⊥
+  unfolding viewOf
+  new-passes x s q l =
+      rejected-not (accepted (viewOf m) x d) (sym (q .0) ∙ s .judged .0)
+      (accepted-more (viewOf m′) (viewOf m) x d refl (omega (arith, small)) l (passed-accepted (accepted (viewOf m′) x d) (sym (q .1) ∙ s .judged .1)))
+
   -- LOWERED: "moves places only in groups whose list held that drive before the edit"
   pub lowered : a ≤ acceptanceOf m d → (v : Move) → List·Memᴰ v (movesOf m m′) → holds d (placedOf m (v .group)) ≡ true
   unfolding viewOf
   lowered l v i =
       let s = source m c (v .group) d a refl (moves-traced m c L ind f .each v i .cause) in
-      ⊎-elim (λ q. old-list (v .group) s (q .0))
-      (λ q.
-      absurd (rejected-not (accepted (viewOf m) (v .group) d) (sym (q .0) ∙ s .judged .0)
-      (accepted-more (viewOf m′) (viewOf m) (v .group) d refl (omega (arith, small)) (omega (arith, new-is, l))
-      (passed-accepted (accepted (viewOf m′) (v .group) d) (sym (q .1) ∙ s .judged .1)))))
-      (s .ends)
+      ⊎-elim (λ q. old-list (v .group) s (q .0)) (λ q. absurd (new-passes (v .group) s q (omega (arith, new-is, l)))) (s .ends)
 
   -- RAISED: "and raising it only in groups whose list holds it afterwards"
   pub raised : acceptanceOf m d ≤ a → (v : Move) → List·Memᴰ v (movesOf m m′) → holds d (placedOf m′ (v .group)) ≡ true
   unfolding viewOf
   raised l v i =
       let s = source m c (v .group) d a refl (moves-traced m c L ind f .each v i .cause) in
+      ⊎-elim (λ q. absurd (old-passes (v .group) s q (omega (arith, new-is, l)))) (λ q. new-list (v .group) s (q .1)) (s .ends)
+
+  -- an acceptance set to the value that it has is both, and moves nothing
+  pub unchanged : a ≡ acceptanceOf m d → movesOf m m′ ≡ []
+  unfolding viewOf
+  unchanged q = none (movesOf m m′) (λ v i.
+      let s = source m c (v .group) d a refl (moves-traced m c L ind f .each v i .cause) in
       ⊎-elim
-      (λ q.
-      absurd (rejected-not (accepted (viewOf m′) (v .group) d) (sym (q .1) ∙ s .judged .1)
-      (accepted-more (viewOf m) (viewOf m′) (v .group) d refl (omega (arith, small)) (omega (arith, new-is, l))
-      (passed-accepted (accepted (viewOf m) (v .group) d) (sym (q .0) ∙ s .judged .0)))))
-      (λ q. new-list (v .group) s (q .1)) (s .ends)
+      (λ o. old-passes (v .group) s o (omega (arith, new-is, q)))
+      (λ o. new-passes (v .group) s o (omega (arith, new-is, q))) (s .ends))
 
 -- ---- how many moves
 
@@ -127,10 +143,6 @@ row-most g olds news (suc k) =
     one : (t : Bool) (v : Move) → length (cond t [] (v ∷ [])) ≤ 1
     one true v = omega arith
     one false v = omega arith
-
-none : (vs : List Move) → ((v : Move) → List·Memᴰ v vs → ⊥) → length vs ≡ 0
-none [] f = refl
-none (v ∷ vs) f = absurd (f v (List·Memᴰ·head refl))
 
 -- one group more
 pub kept-more : (p : Placed → Bool) (xs : List Placed) (y : Placed) → length (kept p (xs ++ (y ∷ []))) ≡ length (kept p xs) + cond (p y) 1 0
@@ -171,7 +183,7 @@ module _ (m : Map) (d w : ℕ) (olds news : List Placed) where
           let z = none (rowOf g) (λ v i.
           let (j, l, q, o) = row-move g (getD olds g nothingPlaced .places) (getD news g nothingPlaced .places) w v i in
           false≢true (sym e ∙ ap (λ (x : ℕ). holds d (placedOf m x)) (sym (ap (λ (y : Move). y .group) q)) ∙ f v (Memᴰ·append-right before i))) in
-          omega (arith, length-append before (rowOf g), z, mul-add w k 0)
+          omega (arith, length-append before (rowOf g), ap length z, mul-add w k 0)
 
 -- "Moves are then at most W times the number of those groups."
 module _ (m : Map) (d a : ℕ) (L : Loadable m) (ind : independent m ≡ true) (f : fits m (Acceptance d a) ≡ true) where

@@ -12,7 +12,7 @@ use Rattle.definitions.specs.Table.{runsOf, rowIn}
 unfoldable pub holds : ℕ → Placed → Bool
 holds d p = has d (rowIn p)
 
--- "the number of those groups": each counts once. (The issue calls such groups holders of the drive.)
+-- "the number of those groups", here called holders: each counts once
 unfoldable pub holdersIn : ℕ → List Placed → ℕ
 holdersIn d runs = length (kept (holds d) runs)
 
