@@ -1,5 +1,5 @@
 /*
- * Placing a group of the podcast archive on its drives, for the storage daemon.
+ * Placing a group of the podcast archive on its drives, for the storage daemon; and telling what an edit of a drive moves at most, for site staff.
  *
  * Link with the archive that `rt staticlib engine` writes (target/staticlib/libengine.a). It has no unwind tables and no debug lines: inside it a
  * debugger shows the names of functions but no lines, and a backtrace may end there. A drive of acceptance 65,536 or 0 is tested without a hash: a
@@ -100,7 +100,7 @@ struct crush_limit {
 /*
  * How many places an edit of a drive's acceptance moves at most, before it is made. Lowering it, to 0 for a dead drive, moves places only in groups
  * that have the drive in their list: ask with the map and the table as they are. Raising it moves places only in groups that have it afterwards: what
- * the map and the table after the edit answer is the ceiling of that edit. Of an edit of a weight this says nothing.
+ * the map and the table after the edit answer is the ceiling of that edit. (Both are proved.) Of an edit of a weight this says nothing.
  *
  *   table      the table that belongs to the map: the W places of group 0, then those of group 1, and so on to the last; each is the number of a
  *              drive or CRUSH_PLACE_HOLE, a 16-bit number as the machine has them. It is only read, and needs the alignment of uint16_t.
@@ -115,7 +115,8 @@ struct crush_limit {
  *   18  Is the drive one of the map's?
  *   19  Is the table what the map gives, place by place?
  *
- * Of threads and of what may overlap the same holds as for crush_place. A call takes the time of placing each group once.
+ * Neither may be null, also where its length is 0. Of threads and of the stack the same holds as for crush_place. A call takes about the time of
+ * filling the table.
  */
 struct crush_limit crush_ceiling(const uint8_t *map, size_t map_len, const uint16_t *table, size_t table_len, uint32_t device);
 

@@ -66,7 +66,7 @@ ap = argparse.ArgumentParser()
 for name, value in (('seed', 1), ('maps', 4), ('edits', 2), ('damaged', 6),
                     ('walks', 1), ('leaves', 5), ('ties', 0), ('through', 4),
                     ('trees', 10), ('blocks', 4), ('weights', 8), ('ceilings', 4),
-                    ('keys', 500), ('per', 60), ('level', 6)):
+                    ('keys', 500), ('per', 60), ('level', 7)):
     ap.add_argument('--' + name, type=int, default=value)
 ap.add_argument('--oracle', required=True)
 ap.add_argument('--crate', default=CRATE)

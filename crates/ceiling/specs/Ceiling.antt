@@ -37,6 +37,66 @@ use Rattle.tracing.specs.Traced.{judge, at-old, at-new}
 use Rattle.tracing.specs.Moves.{moveOf, row-move, runs-count, moves-traced}
 use Rattle.ceiling.specs.Source.{in-list, Source, source}
 
+-- ---- how many moves
+
+none : (vs : List Move) → ((v : Move) → List·Memᴰ v vs → ⊥) → vs ≡ []
+none [] f = refl
+none (v ∷ vs) f = absurd (f v (List·Memᴰ·head refl))
+
+-- a row of k places has at most k moves
+row-most : (g : ℕ) (olds news : List Place) (k : ℕ) → length (rowMovesTo g olds news k) ≤ k
+unfolding rowMovesTo moveAt
+row-most g olds news zero = omega arith
+row-most g olds news (suc k) =
+    let a = getD olds k nowhere in
+    let b = getD news k nowhere in
+    omega (arith, length-append (rowMovesTo g olds news k) (moveAt g (suc k) a b), row-most g olds news k, one (eqb (a .entry) (b .entry)) (moveOf g (suc k) a b))
+  where
+    one : (t : Bool) (v : Move) → length (cond t [] (v ∷ [])) ≤ 1
+    one true v = omega arith
+    one false v = omega arith
+
+-- one group more
+pub kept-more : (p : Placed → Bool) (xs : List Placed) (y : Placed) → length (kept p (xs ++ (y ∷ []))) ≡ length (kept p xs) + cond (p y) 1 0
+unfolding kept
+kept-more p [] y = go (p y)
+  where
+    go : (b : Bool) → length (cond b (y ∷ []) []) ≡ 0 + cond b 1 0
+    go true = refl
+    go false = refl
+kept-more p (x ∷ xs) y = go (p x) (kept-more p xs y)
+  where
+    go : (b : Bool) → length (kept p (xs ++ (y ∷ []))) ≡ length (kept p xs) + cond (p y) 1 0
+        → length (cond b (x ∷ kept p (xs ++ (y ∷ []))) (kept p (xs ++ (y ∷ [])))) ≡ length (cond b (x ∷ kept p xs) (kept p xs)) + cond (p y) 1 0
+    go true e = omega (arith, e)
+    go false e = e
+
+module _ (m : Map) (d w : ℕ) (olds news : List Placed) where
+  abbrev rowOf : ℕ → List Move
+  rowOf g = rowMovesTo g (getD olds g nothingPlaced .places) (getD news g nothingPlaced .places) w
+
+  -- where every move is of a group whose list on map m holds the device, there are at most w for each of these
+  count : (n : ℕ) → ((v : Move) → List·Memᴰ v (movesTo w olds news n) → holds d (placedOf m (v .group)) ≡ true)
+      → length (movesTo w olds news n) ≤ w * holdersIn d (runsTo m n)
+  unfolding movesTo rowMoves runsTo holdersIn
+  count zero f = omega arith
+  count (suc g) f =
+      rw (kept-more (holds d) (runsTo m g) (placedOf m g)) (go (holds d (placedOf m g)) refl (count g (λ v i. f v (Memᴰ·append-left _ i))))
+    where
+      before : List Move
+      before = movesTo w olds news g
+
+      k : ℕ
+      k = length (kept (holds d) (runsTo m g))
+
+      go : (b : Bool) → holds d (placedOf m g) ≡ b → length before ≤ w * k → length (before ++ rowOf g) ≤ w * (k + cond b 1 0)
+      go true e h = omega (arith, length-append before (rowOf g), row-most g (getD olds g nothingPlaced .places) (getD news g nothingPlaced .places) w, mul-add w k 1)
+      go false e h =
+          let z = none (rowOf g) (λ v i.
+          let (j, l, q, o) = row-move g (getD olds g nothingPlaced .places) (getD news g nothingPlaced .places) w v i in
+          false≢true (sym e ∙ ap (λ (x : ℕ). holds d (placedOf m x)) (sym (ap (λ (y : Move). y .group) q)) ∙ f v (Memᴰ·append-right before i))) in
+          omega (arith, length-append before (rowOf g), ap length z, mul-add w k 0)
+
 -- ---- the groups that can move
 
 -- what a lesser acceptance takes, a greater takes
@@ -56,10 +116,6 @@ passed-accepted false e = absurd (let z : _≡_ {A = ℕ} 0 1 = cc in omega arit
 rejected-not : (b : Bool) → Rejected ≡ judge b → b ≡ true → ⊥
 rejected-not true e q = let z : _≡_ {A = ℕ} 0 1 = cc in omega arith
 rejected-not false e q = false≢true q
-
-none : (vs : List Move) → ((v : Move) → List·Memᴰ v vs → ⊥) → vs ≡ []
-none [] f = refl
-none (v ∷ vs) f = absurd (f v (List·Memᴰ·head refl))
 
 module _ (m : Map) (d a : ℕ) (L : Loadable m) (ind : independent m ≡ true) (f : fits m (Acceptance d a) ≡ true) where
   abbrev c : Change
@@ -120,6 +176,23 @@ module _ (m : Map) (d a : ℕ) (L : Loadable m) (ind : independent m ≡ true) (
       let s = source m c (v .group) d a refl (moves-traced m c L ind f .each v i .cause) in
       ⊎-elim (λ q. absurd (old-passes (v .group) s q (omega (arith, new-is, l)))) (λ q. new-list (v .group) s (q .1)) (s .ends)
 
+  -- "Moves are then at most W times the number of those groups."
+  most : (h : Map) → h .groups ≡ m .groups → ((v : Move) → List·Memᴰ v (movesOf m m′) → holds d (placedOf h (v .group)) ≡ true)
+      → length (movesOf m m′) ≤ widthOf m * holders h d
+  unfolding movesOf movesIn holders runsOf
+  most h e g =
+      subst (λ (k : ℕ). length (movesOf m m′) ≤ widthOf m * holdersIn d (runsTo h k)) (runs-count m (m .groups) ∙ sym e)
+      (count h d (widthOf m) (runsOf m) (runsOf m′) (length (runsOf m)) g)
+
+  pub lowered-most : a ≤ acceptanceOf m d → length (movesOf m m′) ≤ ceiling m d
+  unfolding ceiling
+  lowered-most l = most m refl (lowered l)
+
+  pub raised-most : acceptanceOf m d ≤ a → length (movesOf m m′) ≤ ceiling m′ d
+  unfolding ceiling
+  raised-most l =
+      subst (λ (k : ℕ). length (movesOf m m′) ≤ k * holders m′ d) (sym (put-width m c)) (most m′ (put-groups m c) (raised l))
+
   -- an acceptance set to the value that it has is both, and moves nothing
   pub unchanged : a ≡ acceptanceOf m d → movesOf m m′ ≡ []
   unfolding viewOf
@@ -128,80 +201,3 @@ module _ (m : Map) (d a : ℕ) (L : Loadable m) (ind : independent m ≡ true) (
       ⊎-elim
       (λ o. old-passes (v .group) s o (omega (arith, new-is, q)))
       (λ o. new-passes (v .group) s o (omega (arith, new-is, q))) (s .ends))
-
--- ---- how many moves
-
--- a row of k places has at most k moves
-row-most : (g : ℕ) (olds news : List Place) (k : ℕ) → length (rowMovesTo g olds news k) ≤ k
-unfolding rowMovesTo moveAt
-row-most g olds news zero = omega arith
-row-most g olds news (suc k) =
-    let a = getD olds k nowhere in
-    let b = getD news k nowhere in
-    omega (arith, length-append (rowMovesTo g olds news k) (moveAt g (suc k) a b), row-most g olds news k, one (eqb (a .entry) (b .entry)) (moveOf g (suc k) a b))
-  where
-    one : (t : Bool) (v : Move) → length (cond t [] (v ∷ [])) ≤ 1
-    one true v = omega arith
-    one false v = omega arith
-
--- one group more
-pub kept-more : (p : Placed → Bool) (xs : List Placed) (y : Placed) → length (kept p (xs ++ (y ∷ []))) ≡ length (kept p xs) + cond (p y) 1 0
-unfolding kept
-kept-more p [] y = go (p y)
-  where
-    go : (b : Bool) → length (cond b (y ∷ []) []) ≡ 0 + cond b 1 0
-    go true = refl
-    go false = refl
-kept-more p (x ∷ xs) y = go (p x) (kept-more p xs y)
-  where
-    go : (b : Bool) → length (kept p (xs ++ (y ∷ []))) ≡ length (kept p xs) + cond (p y) 1 0
-        → length (cond b (x ∷ kept p (xs ++ (y ∷ []))) (kept p (xs ++ (y ∷ [])))) ≡ length (cond b (x ∷ kept p xs) (kept p xs)) + cond (p y) 1 0
-    go true e = omega (arith, e)
-    go false e = e
-
-module _ (m : Map) (d w : ℕ) (olds news : List Placed) where
-  abbrev rowOf : ℕ → List Move
-  rowOf g = rowMovesTo g (getD olds g nothingPlaced .places) (getD news g nothingPlaced .places) w
-
-  -- where every move is of a group whose list on map m holds the device, there are at most w for each of these
-  count : (n : ℕ) → ((v : Move) → List·Memᴰ v (movesTo w olds news n) → holds d (placedOf m (v .group)) ≡ true)
-      → length (movesTo w olds news n) ≤ w * holdersIn d (runsTo m n)
-  unfolding movesTo rowMoves runsTo holdersIn
-  count zero f = omega arith
-  count (suc g) f =
-      rw (kept-more (holds d) (runsTo m g) (placedOf m g)) (go (holds d (placedOf m g)) refl (count g (λ v i. f v (Memᴰ·append-left _ i))))
-    where
-      before : List Move
-      before = movesTo w olds news g
-
-      k : ℕ
-      k = length (kept (holds d) (runsTo m g))
-
-      go : (b : Bool) → holds d (placedOf m g) ≡ b → length before ≤ w * k → length (before ++ rowOf g) ≤ w * (k + cond b 1 0)
-      go true e h = omega (arith, length-append before (rowOf g), row-most g (getD olds g nothingPlaced .places) (getD news g nothingPlaced .places) w, mul-add w k 1)
-      go false e h =
-          let z = none (rowOf g) (λ v i.
-          let (j, l, q, o) = row-move g (getD olds g nothingPlaced .places) (getD news g nothingPlaced .places) w v i in
-          false≢true (sym e ∙ ap (λ (x : ℕ). holds d (placedOf m x)) (sym (ap (λ (y : Move). y .group) q)) ∙ f v (Memᴰ·append-right before i))) in
-          omega (arith, length-append before (rowOf g), ap length z, mul-add w k 0)
-
--- "Moves are then at most W times the number of those groups."
-module _ (m : Map) (d a : ℕ) (L : Loadable m) (ind : independent m ≡ true) (f : fits m (Acceptance d a) ≡ true) where
-  abbrev n : Map
-  n = put m (Acceptance d a)
-
-  most : (h : Map) → h .groups ≡ m .groups → ((v : Move) → List·Memᴰ v (movesOf m n) → holds d (placedOf h (v .group)) ≡ true)
-      → length (movesOf m n) ≤ widthOf m * holders h d
-  unfolding movesOf movesIn holders runsOf
-  most h e g =
-      subst (λ (k : ℕ). length (movesOf m n) ≤ widthOf m * holdersIn d (runsTo h k)) (runs-count m (m .groups) ∙ sym e)
-      (count h d (widthOf m) (runsOf m) (runsOf n) (length (runsOf m)) g)
-
-  pub lowered-most : a ≤ acceptanceOf m d → length (movesOf m n) ≤ ceiling m d
-  unfolding ceiling
-  lowered-most l = most m refl (lowered m d a L ind f l)
-
-  pub raised-most : acceptanceOf m d ≤ a → length (movesOf m n) ≤ ceiling n d
-  unfolding ceiling
-  raised-most l =
-      subst (λ (k : ℕ). length (movesOf m n) ≤ k * holders n d) (sym (put-width m (Acceptance d a))) (most n (put-groups m (Acceptance d a)) (raised m d a L ind f l))
