@@ -1,9 +1,10 @@
 -- The places of a group by the code's run, and what a look at a group finds. Assumes nothing.
 use mathlib.Core.Path.{_≡_, refl, sym, ap, ap₂, _∙_, subst}
-use mathlib.Core.Bool.{Bool, true, false, not, false≢true}
+use mathlib.Core.Bool.{Bool, true, false, not}
 use mathlib.Core.List.{List, [], _∷_, _++_}
 use Prim.Native.Nat.{ℕ, zero, suc, _-_, _≤_}
 use native.Mathlib.Omega.{arith}
+use borrow.Author.Tests.{not-true, not-false}
 use lib.ListN.{length, take, drop, replicate, length-map}
 use lib.Seq.{take-at, length-take-le}
 use Rattle.definitions.specs.declared.Move.{Move}
@@ -81,21 +82,13 @@ Looked ps qs w x row (Moves k) = (row ≡ entriesOf ps) × (k ≡ length (rowMov
 pub few-moves : (ps qs : List Place) (w x : ℕ) (row : List ℕ) (o : Glance) (k : ℕ) → Looked ps qs w x row o → o ≡ Moves k → k ≤ 32
 few-moves ps qs w x row o k l e = subst (Looked ps qs w x row) e l .2
 
-pub untrue : (b : Bool) → not b ≡ true → b ≡ false
-untrue true e = absurd (false≢true e)
-untrue false e = refl
-
-pub unfalse : (b : Bool) → not b ≡ false → b ≡ true
-unfalse true e = refl
-unfalse false e = absurd (false≢true (sym e))
-
 pub looked-stale : (ps qs : List Place) (w x : ℕ) (row : List ℕ) (r : Bool) → Stood ps w row r → not r ≡ true → Looked ps qs w x row Stale
-looked-stale ps qs w x row r q f = (sym (q .0) ∙ untrue r f, q .1)
+looked-stale ps qs w x row r q f = (sym (q .0) ∙ not-true r f, q .1)
 
 pub looked-moves : (ps qs : List Place) (w x k : ℕ) (row new : List ℕ) (r : Bool) → length row ≡ w → Stood ps w row r → not r ≡ false
     → length new ≡ w → new ≡ entriesOf qs → k ≡ differTo row new (length row) → k ≤ 32 → Looked ps qs w x row (Moves k)
 looked-moves ps qs w x k row new r l q t l′ e′ c h =
-    let i : row ≡ entriesOf ps = same-is row (entriesOf ps) (sym (q .0) ∙ unfalse r t) in
+    let i : row ≡ entriesOf ps = same-is row (entriesOf ps) (sym (q .0) ∙ not-false r t) in
     let a : length ps ≡ w = sym (length-entries ps) ∙ q .1 in
     let b : length qs ≡ w = sym (length-entries qs) ∙ ap length (sym e′) ∙ l′ in
     (i, c ∙ ap₂ (λ (y z : List ℕ). differTo y z (length row)) i e′ ∙ ap (differTo (entriesOf ps) (entriesOf qs)) l ∙ differ-moves x ps qs w (omega arith) (omega arith), h)

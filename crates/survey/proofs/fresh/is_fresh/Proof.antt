@@ -5,9 +5,10 @@ use Prim.Native.Nat.{ℕ, _+_, _-_, _*_, _≤_}
 use native.Mathlib.Omega.{arith}
 use native.Mathlib.Nat.{add-sub-cancel-left}
 use borrow.Author.Needs.{needs}
+use borrow.Author.Tests.{not-true, not-false}
 use lib.ListN.{length, take}
 use Rattle.definitions.specs.Select.{Place}
-use Rattle.survey.specs.Places.{placesAt, untrue, unfalse}
+use Rattle.survey.specs.Places.{placesAt}
 use Rattle.survey.specs.Rows.{same-is}
 use Rattle.survey.specs.Surveyed.{rowsTo, room, small, rows-none, rows-more, rows-differ, rows-all}
 use Rattle.survey.proofs.fresh.is_fresh.Statement.{statement}
@@ -70,7 +71,7 @@ returns c =
     let s = start t in
     let l = t .before .loop in
     let k = c .before .stands in
-    sym (rows-differ (s .args .w) (places s) (l .g) (s .args .table .now) (l .inv .1) _ (add-sub-cancel-left _ _) (s .args .groups) (t .loop-test .taken) (s .pre .1 .1) (k .ensures .1) (sym (k .ensures .0) ∙ untrue (k .result) (c .if1 .taken)))
+    sym (rows-differ (s .args .w) (places s) (l .g) (s .args .table .now) (l .inv .1) _ (add-sub-cancel-left _ _) (s .args .groups) (t .loop-test .taken) (s .pre .1 .1) (k .ensures .1) (sym (k .ensures .0) ∙ not-true (k .result) (c .if1 .taken)))
 
 add-g : tie.Need-add-g Inv-loop μ-loop
 add-g c =
@@ -86,7 +87,7 @@ loop-again c =
     let s = start t in
     let l = t .before .loop in
     let k = c .before .stands in
-    (omega (arith, t .loop-test .taken), rows-more (s .args .w) (places s) (l .g) (s .args .table .now) (l .inv .1) _ (add-sub-cancel-left _ _) (same-is _ _ (sym (k .ensures .0) ∙ unfalse (k .result) (c .if1 .left))))
+    (omega (arith, t .loop-test .taken), rows-more (s .args .w) (places s) (l .g) (s .args .table .now) (l .inv .1) _ (add-sub-cancel-left _ _) (same-is _ _ (sym (k .ensures .0) ∙ not-false (k .result) (c .if1 .left))))
 
 returns-2 : tie.Need-returns-2 Inv-loop μ-loop
 returns-2 c =
