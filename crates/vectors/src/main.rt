@@ -314,6 +314,7 @@ fn same_places(a: &[u16], b: &[u16]) -> bool {
     true
 }
 
+// A case that cannot be right.
 fn lost(t: Limits) -> Met {
     Met {
         at: LOST,
@@ -407,7 +408,7 @@ fn number(head: &[u8; 41], at: usize) -> usize
     wide(digits::field(head, at, 8))
 }
 
-// The same for the map, the edits and the answer of a case.
+// Reads the map, the edits and the answer of a case.
 fn read_all(
     fd: i32,
     map: &mut [u8],
