@@ -8,14 +8,10 @@
  * build before have been renamed from bench_ to before_ (bench/against).
  */
 #define _POSIX_C_SOURCE 200809L
+#include "common.h"
 #include "exports.h"
 
-#include <stdio.h>
-#include <stdlib.h>
-#include <string.h>
-#include <time.h>
-
-enum { MOST = 65537, PLACES = 65536 * 4, SPACE = 1 << 20, FRAME = 14, FIRST = 11, LINE = 23 };
+enum { FRAME = 14 };
 
 /* The exports of the build before, renamed. */
 uint32_t before_load(const uint8_t *, size_t);
@@ -26,12 +22,6 @@ struct bench_made before_edit(uint8_t *, size_t, uint16_t *, size_t, const uint8
 static uint8_t map[2][MOST], space[2][SPACE];
 static uint16_t table[2][PLACES];
 static size_t len[2], drives; /* drives: the bytes of their lines */
-
-static double now(void) {
-    struct timespec t;
-    clock_gettime(CLOCK_THREAD_CPUTIME_ID, &t);
-    return (double)t.tv_sec * 1e9 + (double)t.tv_nsec;
-}
 
 /* Maps of two forms differ in other lines than those of drives. */
 static int same_maps(void) {
@@ -75,29 +65,14 @@ static void measure(const char *name, call *f, int rounds, const char *const *fr
                 fprintf(stderr, "%s: refused, %u\n", name, number);
                 exit(1);
             }
-            if (best[build] == 0 || took < best[build])
-                best[build] = took;
+            keep_least(&best[build], took);
         }
         expect_same(name);
     }
     printf("%s %.1f %.1f\n", name, best[0], best[1]);
 }
 
-static uint32_t field(const uint8_t *at, size_t digits) {
-    char word[9] = {0};
-    memcpy(word, at, digits);
-    return (uint32_t)strtoul(word, NULL, 16);
-}
-
-static void take_map(int build, const char *path) {
-    FILE *f = fopen(path, "rb");
-    if (f == NULL) {
-        perror(path);
-        exit(2);
-    }
-    len[build] = fread(map[build], 1, MOST, f);
-    fclose(f);
-}
+static void take_map(int build, const char *path) { len[build] = read_map(path, map[build]); }
 
 int main(int argc, char **argv) {
     if (argc != 4) {
@@ -116,10 +91,7 @@ int main(int argc, char **argv) {
     measure("load", load, 50 * rounds, NULL);
     measure("fill", fill, rounds, NULL);
     /* the first drive of group 0 fails and comes back, then loses half of its weight and has it again */
-    uint32_t drive = table[0][0], weight = 0;
-    for (const uint8_t *line = map[0] + FIRST; line < map[0] + FIRST + drives; line += LINE)
-        if (field(line + 2, 4) == drive)
-            weight = field(line + 6, 8);
+    uint32_t drive = table[0][0], weight = weight_of(map[0], drive);
     char frames[4][FRAME + 1];
     snprintf(frames[0], sizeof frames[0], "21%04x%08x", drive & 0xffff, 0u);
     snprintf(frames[1], sizeof frames[1], "21%04x%08x", drive & 0xffff, 0x10000u);

@@ -4,30 +4,20 @@
  * usage: bench fill MAP ROUNDS | all MAP ROUNDS
  *
  * A line for each call: its name, the engine's and plain C's nanoseconds, best of all rounds; for the edits also how many places moved in how
- * many edits. The time is the thread's own on the processor, so that other programs disturb it little.
+ * many edits.
  */
 #define _POSIX_C_SOURCE 200809L
 #include "../include/crush_place.h"
+#include "common.h"
 #include "exports.h"
 #include "plain.h"
 
-#include <stdio.h>
-#include <stdlib.h>
-#include <string.h>
-#include <time.h>
-
-enum { MOST = 65537, PLACES = 65536 * 4, SPACE = 1 << 20, MOVE = 23, CAUSE = 20, FIRST = 11, LINE = 23, HASHES = 100000 };
+enum { MOVE = 23, CAUSE = 20, HASHES = 100000 };
 
 static uint8_t map[MOST], map2[MOST], space[SPACE], space2[SPACE];
 static uint16_t table[PLACES], table2[PLACES], edited[PLACES];
 static size_t len, places;
 static uint32_t groups;
-
-static double now(void) {
-    struct timespec t;
-    clock_gettime(CLOCK_THREAD_CPUTIME_ID, &t);
-    return (double)t.tv_sec * 1e9 + (double)t.tv_nsec;
-}
 
 static void expect(int equal, const char *what) {
     if (equal)
@@ -39,11 +29,6 @@ static void expect(int equal, const char *what) {
 struct pair {
     double engine, plain;
 };
-
-static void keep_least(double *best, double took) {
-    if (*best == 0 || took < *best)
-        *best = took;
-}
 
 static void print_pair(const char *name, struct pair best, double calls) { printf("%s %.1f %.1f\n", name, best.engine / calls, best.plain / calls); }
 
@@ -135,20 +120,6 @@ static void hash_once(struct pair *best) {
     keep_least(&best->plain, c - b);
 }
 
-static uint32_t field(const uint8_t *at, size_t digits) {
-    char word[9] = {0};
-    memcpy(word, at, digits);
-    return (uint32_t)strtoul(word, NULL, 16);
-}
-
-/* A drive's weight in the map. */
-static uint32_t weight_of(uint32_t drive) {
-    for (const uint8_t *line = map + FIRST; field(line, 2) == 1; line += LINE)
-        if (field(line + 2, 4) == drive)
-            return field(line + 6, 8);
-    return 0;
-}
-
 /* One value of a drive changed and set back, again and again: only few places move. After each edit the table has to be a fresh fill, which is
  * timed too, so that edit and fill stand beside each other. */
 static void edits(const char *name, int rounds, unsigned kind, uint32_t drive, uint32_t changed, uint32_t back, struct pair *fill) {
@@ -167,13 +138,7 @@ static void edits(const char *name, int rounds, unsigned kind, uint32_t drive, u
 }
 
 static void take_map(const char *path) {
-    FILE *f = fopen(path, "rb");
-    if (f == NULL) {
-        perror(path);
-        exit(2);
-    }
-    len = fread(map, 1, sizeof map, f);
-    fclose(f);
+    len = read_map(path, map);
     uint32_t number = bench_load(map, len);
     if (number != 0 || plain_load(map, len) != 0) {
         fprintf(stderr, "%s: refused, %u and %u\n", path, number, plain_load(map, len));
@@ -208,7 +173,7 @@ int main(int argc, char **argv) {
     /* the first drive of group 0 fails and comes back, then loses half of its weight and has it again */
     uint32_t drive = table[0];
     expect(drive < 1024, "fill: group 0 begins with a drive");
-    uint32_t weight = weight_of(drive);
+    uint32_t weight = weight_of(map, drive);
     for (int i = 0; i < rounds; i++)
         ceiling_once(&ceiling, drive);
     print_pair("ceiling", ceiling, 1);
