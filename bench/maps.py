@@ -73,14 +73,15 @@ def half(n):
     return FULL if n % 2 == 0 else 0
 
 
-def dead(n):
-    """Of every sixteen cabinets of sixteen drives the last takes nothing."""
-    return 0 if n // 16 % 16 == 15 else FULL
+def dead(cabinets):
+    """Of every so many cabinets of sixteen drives the last takes nothing."""
+    return lambda n: 0 if n // 16 % cabinets == cabinets - 1 else FULL
 
 
 ARCHIVE = pathlib.Path(__file__).resolve().parent.parent / "examples" / "archive.map"
 
-# the maps of the table: 1,024 drives each, or 960 where there are as many buckets as can be, and the example archive of 224
+# the maps of the table: 1,024 drives each, or 960 where there are as many buckets as can be; buckets of 3, 7 and 11 children, of which no number is
+# a multiple of those that are hashed at once; and the example archive of 224 drives
 COMPARED = [
     ("equal", "4 x 16 x 16, equal weights", lambda: nested(1024, (4, 16, 16))),
     ("mixed", "4 x 16 x 16, mixed weights", lambda: nested(1024, (4, 16, 16), weight=mixed)),
@@ -88,8 +89,11 @@ COMPARED = [
     ("trees", "the same, the buckets of 64 as trees", lambda: nested(1024, (16, 64), kind=TREE)),
     ("half", "4 x 16 x 16, half at acceptance 0", lambda: nested(1024, (4, 16, 16), acceptance=half)),
     ("through", "4 x 16 x 16, through 3 cabinets", lambda: nested(1024, (4, 16, 16), through=True)),
-    ("dead", "the same, 4 of the 64 cabinets dead", lambda: nested(1024, (4, 16, 16), acceptance=dead, through=True)),
+    ("dead", "the same, 4 of the 64 cabinets dead", lambda: nested(1024, (4, 16, 16), acceptance=dead(16), through=True)),
+    ("quarter", "the same, 16 of the 64 cabinets dead", lambda: nested(1024, (4, 16, 16), acceptance=dead(4), through=True)),
     ("buckets", "15 x 16 x 4, 256 buckets", lambda: nested(1024, (15, 16, 4))),
+    ("elevens", "11 x 11 x 7, equal weights", lambda: nested(1024, (11, 11, 7))),
+    ("sevens", "7 x 11 x 3, mixed weights", lambda: nested(1024, (7, 11, 3), weight=mixed)),
     ("archive", "examples/archive.map", ARCHIVE.read_text),
 ]
 

@@ -1,8 +1,10 @@
 #!/usr/bin/env python3
 """Runs the programs `bench` and `bench-branchless` on each map, prints the ratios of plain C to the engine, and writes growth.json for the plot.
 
-usage: measure.py DIR ROUNDS: DIR holds the programs and takes the maps. The exit status is not 0 where results differ or edit is over its
-budget."""
+usage: measure.py DIR ROUNDS [--runs N] [--libcrush]: DIR holds the programs and takes the maps. Of several runs each cell is a range, the least
+and the greatest; with --libcrush the ratios of libcrush to the engine, by the program `libcrush`, are a column too. The exit status is not 0 where
+results differ or an edit is over its budget."""
+import argparse
 import json
 import pathlib
 import subprocess
@@ -10,8 +12,29 @@ import sys
 
 import maps
 
-BUDGET = 2.5  # an edit that moves few places, in fills
+BUDGETS = {"acceptance": 1.3, "weight": 2.0}  # an edit that moves few places, in fills
 TURNS = 5  # how often the draws of each kind are measured, by turns
+
+
+class Ratio(float):
+    def __str__(self):
+        return f"{self:.2f}"
+
+
+class Time(float):
+    """Nanoseconds."""
+
+    def __str__(self):
+        if self < 1e3:
+            return f"{self:.1f} ns"
+        return f"{self / 1e3:.1f} us" if self < 1e6 else f"{self / 1e6:.2f} ms"
+
+
+def processor():
+    """Its name, so that figures can tell it."""
+    lines = [line.partition(":") for line in pathlib.Path("/proc/cpuinfo").read_text().splitlines()]
+    fields = {key.strip(): value.strip() for key, _, value in lines}
+    return ", ".join(f"{word}{fields.get(key, '?')}" for word, key in (("", "model name"), ("family ", "cpu family"), ("model ", "model")))
 
 
 def run(folder, words, name, text, rounds):
@@ -25,13 +48,7 @@ def run(folder, words, name, text, rounds):
 
 
 def ratio(pair):
-    return f"{pair[1] / pair[0]:.2f}"
-
-
-def time_of(nanoseconds):
-    if nanoseconds < 1e3:
-        return f"{nanoseconds:.1f} ns"
-    return f"{nanoseconds / 1e3:.1f} us" if nanoseconds < 1e6 else f"{nanoseconds / 1e6:.2f} ms"
+    return Ratio(pair[1] / pair[0])
 
 
 def print_table(rows):
@@ -40,50 +57,93 @@ def print_table(rows):
         print("  ".join([row[0].ljust(widths[0])] + [cell.rjust(width) for cell, width in zip(row[1:], widths[1:])]).rstrip())
 
 
-def main():
-    folder, rounds = pathlib.Path(sys.argv[1]), int(sys.argv[2])
-    over = False
-    ratios = [["plain C / engine", "load", "place", "fill", "fill*", "edit 21", "edit 22", "ceiling", "hash"]]
+def span(cells):
+    """A cell over all runs: the least and the greatest, or one where they print alike."""
+    return "-".join(dict.fromkeys([str(min(cells)), str(max(cells))]))
+
+
+def compared(folder, rounds, libcrush):
+    """The tables of the maps that are compared, and the fills that an edit of each kind takes, by map."""
+    ratios = [["plain C / engine", "load", "place", "fill", "fill*", "edit 21", "edit 22", "ceiling", "hash"] + ["libcrush"] * libcrush]
     times = [["the engine's own times", "load", "place", "fill", "edit 21", "edit 22", "ceiling", "hash"]]
     fills = [["in fills of the engine", "edit 21", "edit 22", "ceiling", "moves 21", "moves 22"]]
+    filled, holes, shares = {}, [], []
     for name, title, text in [*maps.COMPARED, maps.BLOCKS]:
         got = run(folder, ["bench", "all"], name, text(), rounds)
+        filled[name] = got["fill"]
         columns = [got[call] for call in ("load", "place", "fill", "acceptance", "weight", "ceiling", "hash")]
         ratios.append([title] + [ratio(pair) for pair in columns])
-        branchless = run(folder, ["bench-branchless", "fill"], name, text(), rounds)["fill"]
-        ratios[-1].insert(4, ratio(branchless))
-        times.append([title] + [time_of(pair[0]) for pair in columns])
-        share = [got[call][0] / got["fill"][0] for call in ("acceptance", "weight", "ceiling")]
+        ratios[-1].insert(4, ratio(run(folder, ["bench-branchless", "fill"], name, text(), rounds)["fill"]))
+        if libcrush:
+            theirs = run(folder, ["libcrush"], name, text(), rounds)
+            ratios[-1].append(ratio(theirs["libcrush"]) if theirs else "-")
+            holes.append(theirs.get("holes", (0, 0)))
+        times.append([title] + [Time(pair[0]) for pair in columns])
+        shares.append([Ratio(got[call][0] / got["fill"][0]) for call in BUDGETS])
+        ceiling = Ratio(got["ceiling"][0] / got["fill"][0])
         moves = [got[call][0] / got[call][1] for call in ("moves-acceptance", "moves-weight")]
-        fills.append([title] + [f"{x:.2f}" for x in share] + [f"{x:.1f}" for x in moves])
-        over = over or max(share[:2]) > BUDGET
-    print_table(ratios)
-    print("fill*: plain C that takes the digits of the logarithm without a branch, as the engine does; 21 is acceptance, 22 weight\n")
-    for rows in (times, fills):
-        print_table(rows)
-        print()
+        fills.append([title, *shares[-1], ceiling] + [f"{x:.1f}" for x in moves])
+    dead = [["fill through 3 of 64 cabinets", "engine", "plain C"]]
+    for name, title in (("dead", "4 dead / all alive"), ("quarter", "16 dead / all alive")):
+        dead.append([title] + [Ratio(a / b) for a, b in zip(filled[name], filled["through"])])
+    tables = [ratios, times, fills, dead]
+    if libcrush:
+        tables.append([["holes in all lists", "engine", "libcrush"], ["maps that libcrush has"] + [f"{sum(n):.0f}" for n in zip(*holes)]])
+    return tables, shares
+
+
+def drawn(folder, rounds):
+    """The table of a draw in a straw bucket and in a tree."""
     turns = [[run(folder, ["bench", "fill"], name, text(), rounds)["fill"] for name, text in maps.DRAWN] for _ in range(TURNS)]
     straw, tree, rest = [[min(took) / maps.DRAWS for took in zip(*pairs)] for pairs in zip(*turns)]
-    drawn = [["a draw among 64 children", "engine", "plain C", "ratio"]]
+    rows = [["a draw among 64 children", "engine", "plain C", "ratio"]]
     draws = [[took - other for took, other in zip(pair, rest)] for pair in (straw, tree)]
-    drawn += [[name, time_of(pair[0]), time_of(pair[1]), ratio(pair)] for name, pair in zip(("straw", "tree"), draws)]
-    drawn.append(["straw / tree"] + [f"{long / short:.2f}" for long, short in zip(*draws)] + [""])
-    drawn.append(["the rest of a place", time_of(rest[0]), time_of(rest[1]), ratio(rest)])
-    print_table(drawn)
-    print()
-    growth = []
+    rows += [[name, Time(pair[0]), Time(pair[1]), ratio(pair)] for name, pair in zip(("straw", "tree"), draws)]
+    rows.append(["straw / tree"] + [Ratio(long / short) for long, short in zip(*draws)] + [""])
+    rows.append(["the rest of a place", Time(rest[0]), Time(rest[1]), ratio(rest)])
+    return rows
+
+
+def grown(folder, rounds):
+    """The tables of how fill's time grows; they are written for the plot too."""
+    tables, growth = [], []
     for name, title, points in maps.GROWTH:
-        rows = [[f"fill by {name}: {title}", "engine", "plain C", "ratio"]]
-        measured = []
-        for number, text in points:
-            pair = run(folder, ["bench", "fill"], "growth", text(), rounds)["fill"]
-            measured.append([number, pair[0], pair[1]])
-            rows.append([f"{number:,}", time_of(pair[0]), time_of(pair[1]), ratio(pair)])
-        growth.append({"name": name, "title": title, "points": measured})
-        print_table(rows)
-        print()
+        pairs = [(number, *run(folder, ["bench", "fill"], "growth", text(), rounds)["fill"]) for number, text in points]
+        growth.append({"name": name, "title": title, "points": pairs})
+        tables.append([[f"fill by {name}: {title}", "engine", "plain C", "ratio"]])
+        tables[-1] += [[f"{number:,}", Time(engine), Time(plain), ratio((engine, plain))] for number, engine, plain in pairs]
     (folder / "growth.json").write_text(json.dumps(growth))
-    print(f"all results equal; edit is {'over' if over else 'within'} its budget of {BUDGET} fills")
+    return tables
+
+
+def main():
+    parser = argparse.ArgumentParser()
+    parser.add_argument("folder", type=pathlib.Path)
+    parser.add_argument("rounds", type=int)
+    parser.add_argument("--runs", type=int, default=1)
+    parser.add_argument("--libcrush", action="store_true")
+    args = parser.parse_args()
+    print(processor())
+    runs, shares = [], []
+    for _ in range(args.runs):
+        tables, share = compared(args.folder, args.rounds, args.libcrush)
+        runs.append([*tables, drawn(args.folder, args.rounds), *grown(args.folder, args.rounds)])
+        shares.append(share)
+    print("fill*: plain C that takes the digits of the logarithm without a branch, as the engine does; 21 is acceptance, 22 weight")
+    if args.libcrush:
+        print("libcrush: its time for all groups / the engine's fill, with 50 tries also of the inner walk, where its own default is 1;")
+        print("- where it cannot have the map alike")
+    print()
+    for tables in zip(*runs):
+        print_table([[span(cells) for cells in zip(*rows)] for rows in zip(*tables)])
+        print()
+    # of each map the run that was disturbed least
+    least = [[min(cells) for cells in zip(*same)] for same in zip(*shares)]
+    over = []
+    for (call, budget), cells in zip(BUDGETS.items(), zip(*least)):
+        over += [call] * (max(cells) > budget)
+        print(f"an edit of {call} takes at most {max(cells)} fills; its budget is {budget}")
+    print(f"all results equal; over budget: {', '.join(over) or 'none'}")
     return 1 if over else 0
 
 
