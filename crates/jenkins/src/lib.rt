@@ -88,32 +88,67 @@ pub fn hash2(seed: u32, p: u32, q: u32) -> u32
     m.c
 }
 
-// The hash of three numbers; the seed is S in document 01.
-pub fn hash3(seed: u32, p: u32, q: u32, s: u32) -> u32
-    ensures { λ h. ⌜ h ≡ hash3 seed p q s ⌝ }
+// Two hashes of three numbers that differ in the second.
+pub struct Two {
+    pub one: u32,
+    pub other: u32,
+}
+
+// The hashes of three numbers, for two numbers in the second's place; the seed is S in document 01. Each step of the one is followed by that of
+// the other, which does not wait for it: the processor works on both at once.
+pub fn hash3_two(seed: u32, p: u32, q: u32, o: u32, s: u32) -> Two
+    ensures { λ h. ⌜ (h .one ≡ hash3 seed p q s) × (h .other ≡ hash3 seed p o s) ⌝ }
 {
     let k = mix(Mix {
         a: p,
         b: q,
         c: seed ^ p ^ q ^ s,
     });
+    let k2 = mix(Mix {
+        a: p,
+        b: o,
+        c: seed ^ p ^ o ^ s,
+    });
     let l = mix(Mix { a: s, b: V, c: k.c });
+    let l2 = mix(Mix {
+        a: s,
+        b: V,
+        c: k2.c,
+    });
     let m = mix(Mix {
         a: W,
         b: k.a,
         c: l.c,
+    });
+    let m2 = mix(Mix {
+        a: W,
+        b: k2.a,
+        c: l2.c,
     });
     let n = mix(Mix {
         a: k.b,
         b: l.b,
         c: m.c,
     });
-    let o = mix(Mix {
+    let n2 = mix(Mix {
+        a: k2.b,
+        b: l2.b,
+        c: m2.c,
+    });
+    let z = mix(Mix {
         a: m.a,
         b: l.a,
         c: n.c,
     });
-    o.c
+    let z2 = mix(Mix {
+        a: m2.a,
+        b: l2.a,
+        c: n2.c,
+    });
+    Two {
+        one: z.c,
+        other: z2.c,
+    }
 }
 
 // The hash of four numbers; the seed is S in document 01.

@@ -1,20 +1,19 @@
 -- Document 01, "The straw draw": laws of the draw. Assumes nothing.
-use mathlib.Core.Path.{_≡_, refl, sym, ap, _∙_, subst}
+use mathlib.Core.Path.{_≡_, refl, sym, _∙_, subst}
 use mathlib.Core.Bool.{Bool, true, false, cond, _&&_, _||_}
-use mathlib.Core.List.{List, _++_, map}
+use mathlib.Core.List.{List}
 use mathlib.Core.Logic.{_⊎_, inl, inr, ⊎-elim}
 use Prim.Native.Nat.{ℕ, zero, suc, _+_, _*_, _/_, _^_, _<_, _≤_}
 use native.Mathlib.Nat.{le-div-iff-mul-le, le-trans, mul-le-mul-left, div-mul-le-self, eq-or-lt-of-le}
 use native.Mathlib.Omega.{arith}
 use borrow.Author.Tests.{ltb-true, ltb-false, eqb-true, eqb-false, lt-ltb, le-ltb, eq-eqb, ne-eqb}
 use lib.Dec.{ltb, eqb}
-use lib.ListN.{length, getD, length-map, List·getD-append}
+use lib.ListN.{length, getD}
 use Rattle.definitions.specs.declared.Best.{Best}
 use Rattle.definitions.specs.declared.Best.the-variants.{Nobody, Leads}
 use Rattle.definitions.specs.declared.Drawn.the-variants.{Winner, Nothing}
 use Rattle.definitions.specs.Hash.{hash3}
 use Rattle.definitions.specs.Straw.{cost, key, keyOf, wins, better, consider, bestTo, drawnOf, drawOf}
-use Rattle.laws.specs.Lists.{getD-mapped}
 
 -- a greater weight has no greater key
 pub key-falls : (c v w : ℕ) → 0 < v → v ≤ w → key c w ≤ key c v
@@ -180,13 +179,6 @@ module _ (seed x r : ℕ) where
       → better b i own ≡ consider seed x r b i k
   unfolding keyOf
   consider-key b i k h own p e f = rw (e, f) (sym (consider-above b i k p))
-
-  -- a child's hash, where those of all children stand before others
-  pub hash-at : (items hashes rest : List ℕ) (n : ℕ) → hashes ≡ map (λ (i : ℕ). hash3 seed x i r) items ++ rest → n < length items
-      → getD hashes n 0 ≡ hash3 seed x (getD items n 0) r
-  hash-at items hashes rest n e h =
-      let f : ℕ → ℕ = λ i. hash3 seed x i r in
-      ap (λ (hs : List ℕ). getD hs n 0) e ∙ List·getD-append (map f items) rest 0 n (rw (length-map items f) h) ∙ getD-mapped f items n 0 0 h
 
   -- one child
   consider-raised : (c : ℕ) (a b : Best) (i v w : ℕ) → Heavier c i v w → Raised c a b → Raised c (consider seed x r a i v) (consider seed x r b i w)

@@ -1,2 +1,3 @@
--- The draw with a guard.
+-- The draw with a guard, and the hashes of a draw.
 pub mod Guard
+pub mod Hashes

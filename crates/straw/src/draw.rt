@@ -1,13 +1,12 @@
 // The draw: the child of least key, of equal keys the one of smaller item number.
 ghost use mathlib.Core.Path.{_≡_};
-ghost use mathlib.Core.List.{map};
 ghost use mathlib.Core.Logic.{_⊎_};
-ghost use Prim.Native.Nat.{ℕ, _*_, _^_, _<_, _≤_};
-ghost use lib.ListN.{length, replicate};
-ghost use Rattle.definitions.specs.Lists.{over};
+ghost use Prim.Native.Nat.{ℕ, _+_, _*_, _^_, _<_, _≤_};
+ghost use lib.ListN.{length, getD};
 ghost use Rattle.definitions.specs.Hash.{hash3};
 ghost use Rattle.definitions.specs.Straw.{key, keyOf, wins, consider, drawnOf, drawOf};
 ghost use Rattle.straw.specs.Guard.{Found, Hashed, Ahead};
+ghost use Rattle.straw.specs.Hashes.{Filled};
 use crate::guard;
 use crate::logarithm;
 use definitions::Best;
@@ -65,16 +64,57 @@ fn answer(b: Best) -> Drawn
     }
 }
 
-// The hash of each child, and 0 behind them. Nothing else is in this loop, so that the compiler can hash several children at once.
+// The item number of child i, and 0 behind the last.
+fn item_at(items: &[u32], i: usize) -> u32
+    ensures { λ r. ⌜ r ≡ getD (now (items .entry)) i 0 ⌝ }
+{
+    if i < items.len() {
+        return items[i];
+    }
+    0
+}
+
+// Eight children, from place i on.
+fn eight_at(items: &[u32], i: usize) -> [u32; 8]
+    requires { ⌜ i ≤ 64 ⌝ }
+    ensures { λ r. ⌜ Filled (λ (j : ℕ). getD (now (items .entry)) (i + j) 0) 8 8 r ⌝ }
+{
+    let mut eight = [0u32; 8];
+    let mut j: usize = 0;
+    while j < 8 {
+        eight[j] = item_at(items, i + j);
+        j += 1;
+    }
+    eight
+}
+
+// Their hashes. The compiler makes four hashes at once of each half.
+fn hash_eight(seed: u32, x: u32, r: u32, eight: [u32; 8], hashes: &mut [u32])
+    requires { ⌜ length (now hashes) ≡ 8 ⌝ }
+    ensures { λ _. ⌜ Filled (λ (j : ℕ). hash3 seed x (getD eight j 0) r) 8 8 (now (hashes .exit)) ⌝ }
+{
+    let mut i: usize = 0;
+    while i < 4 {
+        let two = jenkins::hash3_two(seed, x, eight[i], eight[i + 4], r);
+        hashes[i] = two.one;
+        hashes[i + 4] = two.other;
+        i += 1;
+    }
+}
+
+// The hash of each child, at its place. Nothing else is in this loop, so that the compiler can hash several children at once; the last of them
+// are hashed with others behind them, as eight cost no more than one.
 pub fn hash_children(seed: u32, x: u32, r: u32, items: &[u32]) -> [u32; 64]
     requires { ⌜ length (now items) ≤ 64 ⌝ }
-    ensures { λ hs. ⌜ hs ≡ over (map (λ (i : ℕ). hash3 seed x i r) (now (items .entry))) (replicate 64 0) ⌝ }
+    ensures { λ hs. ⌜ Hashed seed x r (now (items .entry)) hs ⌝ }
 {
     let mut hashes = [0u32; 64];
-    let mut i: usize = 0;
-    while i < items.len() {
-        hashes[i] = jenkins::hash3(seed, x, items[i], r);
-        i += 1;
+    let mut k: usize = 0;
+    while k * 8 < items.len() {
+        let a = k * 8;
+        let e = a + 8;
+        hash_eight(seed, x, r, eight_at(items, a), &mut hashes[a..e]);
+        k += 1;
     }
     hashes
 }

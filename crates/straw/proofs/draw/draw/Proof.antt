@@ -3,7 +3,7 @@ use mathlib.Core.Path.{sym, _∙_}
 use mathlib.Core.Logic.{⊎-elim}
 use native.Mathlib.Omega.{arith}
 use borrow.Author.Needs.{needs}
-use Rattle.laws.specs.Draw.{hash-at, none-exactly}
+use Rattle.laws.specs.Draw.{none-exactly}
 use Rattle.straw.specs.Guard.{ahead-all}
 use Rattle.straw.proofs.draw.draw.Statement.{statement}
 use Rattle.straw.proofs.draw.draw.Tie as tie
@@ -39,8 +39,7 @@ returns-2 c =
     let a = k .before .before .before .args in
     c .answer .ensures
     ∙ ahead-all (a .seed) (a .x) (a .r) (a .items .now) (a .weights .now) _ _
-    (c .before .contest .ensures (a .seed) (a .x) (a .r)
-    (λ n h. hash-at (a .seed) (a .x) (a .r) (a .items .now) _ _ n (k .hash-children .ensures) h))
+    (c .before .contest .ensures (a .seed) (a .x) (a .r) (k .hash-children .ensures))
 
 pub draw-spec : {M : Type 1} → statement M
 draw-spec =
