@@ -84,16 +84,6 @@ loses-on i k j l h n p q =
     let (b, g) = lost j l h n q in
     loses i k h n (omega arith) (λ e. le-trans (g (omega arith)) (f (omega arith)))
 
--- who wins against the best so far takes its place
-pub better-wins : (i k j l : ℕ) → wins i k j l ≡ true → better (Leads j l) i k ≡ Leads i k
-unfolding better
-better-wins i k j l e = rw e
-
--- who does not leaves it
-pub better-loses : (i k j l : ℕ) → wins i k j l ≡ false → better (Leads j l) i k ≡ Leads j l
-unfolding better
-better-loses i k j l e = rw e
-
 -- the bests of two runs that differ at item c only, which weighs more in the second
 pub data Raised (c : ℕ) : Best → Best → Type 0 where
   same : {b : Best} → Raised c b b
@@ -164,22 +154,6 @@ pub data Won (seed x r : ℕ) (items weights : List ℕ) (n : ℕ) : Best → Ty
   leads : {i : ℕ} (l : Least seed x r items weights n i) → Won seed x r items weights n (Leads i (keyOf seed x r i (getD weights (l .place) 0)))
 
 module _ (seed x r : ℕ) where
-  -- a child of weight 0 changes nothing
-  pub consider-zero : (b : Best) (i k : ℕ) → k ≡ 0 → consider seed x r b i k ≡ b
-  unfolding consider
-  consider-zero b i k e = rw e
-
-  -- a child of weight above 0 is set against the best so far
-  pub consider-above : (b : Best) (i k : ℕ) → 0 < k → consider seed x r b i k ≡ better b i (keyOf seed x r i k)
-  unfolding consider
-  consider-above b i k h = rw (ne-eqb k 0 (omega arith))
-
-  -- the same from the child's hash
-  pub consider-key : (b : Best) (i k h own : ℕ) → 0 < k → own ≡ key (cost (h + 1)) k → h ≡ hash3 seed x i r
-      → better b i own ≡ consider seed x r b i k
-  unfolding keyOf
-  consider-key b i k h own p e f = rw (e, f) (sym (consider-above b i k p))
-
   -- one child
   consider-raised : (c : ℕ) (a b : Best) (i v w : ℕ) → Heavier c i v w → Raised c a b → Raised c (consider seed x r a i v) (consider seed x r b i w)
   unfolding consider keyOf

@@ -1,15 +1,14 @@
 // The draw: the child of least key, of equal keys the one of smaller item number.
 ghost use mathlib.Core.Path.{_≡_};
-ghost use mathlib.Core.Logic.{_⊎_};
-ghost use Prim.Native.Nat.{ℕ, _+_, _*_, _^_, _<_, _≤_};
+ghost use Prim.Native.Nat.{ℕ, _+_, _<_, _≤_};
 ghost use lib.ListN.{length, getD};
+ghost use Rattle.definitions.specs.declared.Drawn.the-variants.{Winner};
 ghost use Rattle.definitions.specs.Hash.{hash3};
-ghost use Rattle.definitions.specs.Straw.{key, keyOf, wins, consider, drawnOf, drawOf};
-ghost use Rattle.straw.specs.Guard.{Found, Hashed, Ahead};
+ghost use Rattle.definitions.specs.Straw.{cost, key, wins, drawOf};
+ghost use Rattle.straw.specs.Guard.{Found, Hashed};
 ghost use Rattle.straw.specs.Hashes.{Filled};
 use crate::guard;
 use crate::logarithm;
-use definitions::Best;
 use definitions::Drawn;
 
 // Does the child of number i and key k win against that of number j and key l?
@@ -23,45 +22,6 @@ fn wins(i: u32, k: u64, j: u32, l: u64) -> bool
         return false;
     }
     i < j
-}
-
-// The better of the best so far and a child of weight k whose hash is h.
-pub fn consider(b: Best, item: u32, k: u32, h: u32) -> Best
-    ensures { λ d. ⌜ ((seed x r : ℕ) → h ≡ hash3 seed x item r → d ≡ consider seed x r b item k) ⌝ }
-{
-    if k == 0 {
-        return b;
-    }
-    let own = logarithm::key(logarithm::cost(h), k);
-    match b {
-        Best::Nobody => Best::Leads(item, own),
-        Best::Leads(j, l) => if wins(item, own, j, l) {
-            Best::Leads(item, own)
-        } else {
-            Best::Leads(j, l)
-        },
-    }
-}
-
-// The same, unless the child is sure to have a greater key than the guard, of cost c and weight w.
-fn contend(b: Best, item: u32, k: u32, h: u32, c: u32, w: u32) -> Best
-    requires { ⌜ (c ≤ 32 * 2 ^ 20) × (0 < w) ⌝ }
-    ensures { λ d. ⌜ ((seed x r : ℕ) → h ≡ hash3 seed x item r
-        → (d ≡ consider seed x r b item k) ⊎ ((d ≡ b) × (0 < k → key c w < keyOf seed x r item k))) ⌝ }
-{
-    if guard::spared(h, k, c, w) {
-        return b;
-    }
-    consider(b, item, k, h)
-}
-
-fn answer(b: Best) -> Drawn
-    ensures { λ d. ⌜ d ≡ drawnOf b ⌝ }
-{
-    match b {
-        Best::Nobody => Drawn::Nothing,
-        Best::Leads(i, k) => Drawn::Winner(i),
-    }
 }
 
 // The item number of child i, and 0 behind the last.
@@ -119,23 +79,41 @@ pub fn hash_children(seed: u32, x: u32, r: u32, items: &[u32]) -> [u32; 64]
     hashes
 }
 
-// The best of all children, where the one at place g is the guard.
-fn contest(items: &[u32], weights: &[u32], hashes: &[u32], g: usize) -> Best
+// The key of a child of weight k whose hash is h.
+fn own_key(h: u32, k: u32) -> u64
+    requires { ⌜ 0 < k ⌝ }
+    ensures { λ r. ⌜ r ≡ key (cost (h + 1)) k ⌝ }
+{
+    logarithm::key(logarithm::cost(h), k)
+}
+
+// The winner's item number, where the child at place g is the guard: it leads at first, and no child is asked that is sure to lose against it.
+fn contest(items: &[u32], weights: &[u32], hashes: &[u32], g: usize) -> u32
     requires { ⌜ (length (now weights) ≡ length (now items)) × (length (now items) ≤ length (now hashes)) × Found (now weights) g ⌝ }
-    ensures { λ b. ⌜ ((seed x r : ℕ) → Hashed seed x r (now (items .entry)) (now (hashes .entry))
-        → Ahead seed x r (now (items .entry)) (now (weights .entry)) g (length (now (items .entry))) b) ⌝ }
+    ensures { λ i. ⌜ ((seed x r : ℕ) → Hashed seed x r (now (items .entry)) (now (hashes .entry))
+        → Winner i ≡ drawOf seed x r (now (items .entry)) (now (weights .entry))) ⌝ }
 {
     let w = weights[g];
     let c = logarithm::cost(hashes[g]);
-    let mut best = Best::Leads(items[g], logarithm::key(c, w));
+    let mut item = items[g];
+    let mut least = logarithm::key(c, w);
     let mut i: usize = 0;
     while i < items.len() {
+        let j = items[i];
+        let k = weights[i];
+        let h = hashes[i];
         if i != g {
-            best = contend(best, items[i], weights[i], hashes[i], c, w);
+            if !guard::spared(h, k, c, w) {
+                let own = own_key(h, k);
+                if wins(j, own, item, least) {
+                    item = j;
+                    least = own;
+                }
+            }
         }
         i += 1;
     }
-    best
+    item
 }
 
 // The draw of group x with try number r among children, by their item numbers and their weights.
@@ -148,5 +126,8 @@ pub fn draw(seed: u32, x: u32, r: u32, items: &[u32], weights: &[u32]) -> Drawn
     if g == weights.len() {
         return Drawn::Nothing;
     }
-    answer(contest(items, weights, &hashes, g))
+    if guard::alone(&hashes, weights, g) {
+        return Drawn::Winner(items[g]);
+    }
+    Drawn::Winner(contest(items, weights, &hashes, g))
 }

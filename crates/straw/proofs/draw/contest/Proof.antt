@@ -1,21 +1,23 @@
--- `straw::draw::contest` meets its contract. The invariant: neither the guard nor a child so far comes before the best. Assumes nothing.
-use mathlib.Core.Path.{_≡_, subst}
+-- `straw::draw::contest` meets its contract. The invariant: neither the guard nor a child so far comes before the leader. Assumes nothing.
+use mathlib.Core.Path.{_≡_, refl, sym, _∙_, subst}
 use mathlib.Core.Logic.{⊎-elim}
-use Prim.Native.Nat.{ℕ, _-_, _≤_, _<_}
+use Prim.Native.Nat.{ℕ, _+_, _-_, _≤_, _<_}
 use native.Mathlib.Omega.{arith}
 use lib.ListN.{length, getD}
 use borrow.Author.Needs.{needs}
-use Rattle.definitions.specs.Straw.{key}
-use Rattle.straw.specs.Guard.{Hashed, Ahead, keyAt, hashed-key, guard-first, ahead-more, ahead-guard}
+use borrow.Author.Tests.{not-true, not-false}
+use Rattle.definitions.specs.declared.Best.the-variants.{Leads}
+use Rattle.definitions.specs.Straw.{cost, key, drawnOf}
+use Rattle.straw.specs.Guard.{Hashed, Ahead, keyAt, hashed-key, guard-first, ahead-spared, ahead-guard, ahead-won, ahead-lost, ahead-all}
 use Rattle.straw.proofs.draw.contest.Statement.{statement}
 use Rattle.straw.proofs.draw.contest.Tie as tie
 
 abbrev Inv-loop : tie.InvT-loop
-Inv-loop items weights hashes g w c best₀ i₀ best i =
-    (i ≤ length items) × ((seed x r : ℕ) → Hashed seed x r items hashes → Ahead seed x r items weights g i best)
+Inv-loop items weights hashes g w c item₀ least₀ i₀ item least i =
+    (i ≤ length items) × ((seed x r : ℕ) → Hashed seed x r items hashes → Ahead seed x r items weights g i (Leads item least))
 
 abbrev μ-loop : tie.MeasureT-loop
-μ-loop items weights hashes g w c best₀ i₀ best i = length items - i
+μ-loop items weights hashes g w c item₀ least₀ i₀ item least i = length items - i
 
 mul-w : tie.Need-mul-w Inv-loop μ-loop
 mul-w c = search needs
@@ -32,11 +34,11 @@ shared-slice-read-cost c = search needs
 cost-requires : tie.Need-cost-requires Inv-loop μ-loop
 cost-requires c κs = search needs
 
-mul-t9 : tie.Need-mul-t9 Inv-loop μ-loop
-mul-t9 c = search needs
+mul-item : tie.Need-mul-item Inv-loop μ-loop
+mul-item c = search needs
 
-shared-slice-read-t11 : tie.Need-shared-slice-read-t11 Inv-loop μ-loop
-shared-slice-read-t11 c = search needs
+shared-slice-read-item : tie.Need-shared-slice-read-item Inv-loop μ-loop
+shared-slice-read-item c = search needs
 
 key-requires : tie.Need-key-requires Inv-loop μ-loop
 key-requires c κs = search needs
@@ -47,40 +49,44 @@ keyed : (c : tie.After-key Inv-loop μ-loop) (seed x r : ℕ)
     Hashed seed x r (a .items .now) (a .hashes .now)
     → key (c .before .before .cost .result) (getD (a .weights .now) (a .g) 0) ≡ keyAt seed x r (a .items .now) (a .weights .now) (a .g)
 keyed c seed x r f =
-    let s = c .before .before .before .before .before .before .before .before in
-    let a = s .args in
+    let a = c .before .before .before .before .before .before .before .before .args in
     hashed-key seed x r (a .items .now) (a .weights .now) (a .hashes .now) (a .g) (c .before .before .cost .result) f (search needs)
     (c .before .before .cost .ensures .0)
 
 loop-holds : tie.Need-loop-holds Inv-loop μ-loop
 loop-holds c =
-    let s = c .before .before .before .before .before .before .before .before in
-    let a = s .args in (
+    let a = c .before .before .before .before .before .before .before .before .args in (
       search needs,
       λ seed x r f. rw (c .key .ensures, keyed c seed x r f)
           (guard-first seed x r (a .items .now) (a .weights .now) (a .g) (search needs) (search needs)),
     )
 
-mul-contend : tie.Need-mul-contend Inv-loop μ-loop
-mul-contend c = search needs
+mul-j : tie.Need-mul-j Inv-loop μ-loop
+mul-j c = search needs
 
-shared-slice-read-contend : tie.Need-shared-slice-read-contend Inv-loop μ-loop
-shared-slice-read-contend c = search needs
+shared-slice-read-j : tie.Need-shared-slice-read-j Inv-loop μ-loop
+shared-slice-read-j c = search needs
 
-mul-contend-2 : tie.Need-mul-contend-2 Inv-loop μ-loop
-mul-contend-2 c = search needs
+mul-k : tie.Need-mul-k Inv-loop μ-loop
+mul-k c = search needs
 
-shared-slice-read-contend-2 : tie.Need-shared-slice-read-contend-2 Inv-loop μ-loop
-shared-slice-read-contend-2 c = omega arith
+shared-slice-read-k : tie.Need-shared-slice-read-k Inv-loop μ-loop
+shared-slice-read-k c = search needs
 
-mul-contend-3 : tie.Need-mul-contend-3 Inv-loop μ-loop
-mul-contend-3 c = search needs
+mul-h : tie.Need-mul-h Inv-loop μ-loop
+mul-h c = search needs
 
-shared-slice-read-contend-3 : tie.Need-shared-slice-read-contend-3 Inv-loop μ-loop
-shared-slice-read-contend-3 c = omega arith
+shared-slice-read-h : tie.Need-shared-slice-read-h Inv-loop μ-loop
+shared-slice-read-h c = search needs
 
-contend-requires : tie.Need-contend-requires Inv-loop μ-loop
-contend-requires c κs = search needs
+spared-requires : tie.Need-spared-requires Inv-loop μ-loop
+spared-requires c κs = search needs
+
+own-key-requires : tie.Need-own-key-requires Inv-loop μ-loop
+own-key-requires c κs = c .before .spared .ensures .1 (not-true _ (c .if2 .taken))
+
+wins-requires : tie.Need-wins-requires Inv-loop μ-loop
+wins-requires c κs = search needs
 
 add-i : tie.Need-add-i Inv-loop μ-loop
 add-i c = search needs
@@ -90,25 +96,44 @@ loop-less c = search needs
 
 loop-again : tie.Need-loop-again Inv-loop μ-loop
 loop-again c =
-    let l = c .before .before in
+    let l = c .before .before .before .before .before in
     let k = l .before in
     let a = k .before .before .before .before .before .before .before .before .args in
+    let items = a .items .now in
+    let ws = a .weights .now in
     let i = l .loop .i in
-    let h : i < length (a .items .now) = omega arith in (
+    let item = l .loop .item in
+    let least = l .loop .least in
+    let h : i < length items = omega arith in (
       omega arith,
-      λ seed x r f. ⊎-elim
-          (λ y. rw (y .5) (ahead-more seed x r (a .items .now) (a .weights .now) (a .g) i _ (l .loop .best) _ h (keyed k seed x r f) (y .4 .ensures seed x r (f i h))
-          (l .loop .inv .1 seed x r f)))
-          (λ n. rw (n .1) (ahead-guard seed x r (a .items .now) (a .weights .now) (a .g) i (l .loop .best) (n .0 .left) (l .loop .inv .1 seed x r f)))
+      λ seed x r f.
+          let led = l .loop .inv .1 seed x r f in
+          let keyed-here = hashed-key seed x r items ws (a .hashes .now) i (cost (getD (a .hashes .now) i 0 + 1)) f h refl in
+          ⊎-elim
+          (λ y.
+          let e : y .3 .result ≡ keyAt seed x r items ws i = y .3 .ensures ∙ keyed-here in
+          rw (y .6, y .7, e) (ahead-won seed x r items ws (a .g) i item least h (y .1 .ensures .1 (not-true _ (y .2 .taken))) (rw (← e) (sym (y .4 .ensures) ∙ y .5 .taken)) led))
+          (λ n. ⊎-elim
+          (λ y.
+          let e : y .3 .result ≡ keyAt seed x r items ws i = y .3 .ensures ∙ keyed-here in
+          rw (y .6, y .7) (ahead-lost seed x r items ws (a .g) i item least (rw (← e) (sym (y .4 .ensures) ∙ y .5 .left)) led))
+          (λ n. ⊎-elim
+          (λ y. rw (y .3, y .4) (ahead-spared seed x r items ws (a .g) i (Leads item least)
+          (λ w. rw (← keyed k seed x r f, ← keyed-here) (y .1 .ensures .0 (not-false _ (y .2 .left)) w)) led))
+          (λ y. rw (y .1, y .2) (ahead-guard seed x r items ws (a .g) i (Leads item least) (y .0 .left) led))
+          n)
+          n)
           (c .if1 .came),
     )
 
 returns : tie.Need-returns Inv-loop μ-loop
+unfolding drawnOf
 returns c seed x r f =
     let l = c .before in
     let a = l .before .before .before .before .before .before .before .before .before .args in
     let e : l .loop .i ≡ length (a .items .now) = omega arith in
-    subst (λ (n : ℕ). Ahead seed x r (a .items .now) (a .weights .now) (a .g) n (l .loop .best)) e (l .loop .inv .1 seed x r f)
+    ahead-all seed x r (a .items .now) (a .weights .now) (a .g) (Leads (l .loop .item) (l .loop .least))
+    (subst (λ (n : ℕ). Ahead seed x r (a .items .now) (a .weights .now) (a .g) n (Leads (l .loop .item) (l .loop .least))) e (l .loop .inv .1 seed x r f))
 
 pub contest-spec : {M : Type 1} → statement M
 contest-spec =
@@ -121,17 +146,19 @@ contest-spec =
     mul-cost
     shared-slice-read-cost
     cost-requires
-    mul-t9
-    shared-slice-read-t11
+    mul-item
+    shared-slice-read-item
     key-requires
     loop-holds
-    mul-contend
-    shared-slice-read-contend
-    mul-contend-2
-    shared-slice-read-contend-2
-    mul-contend-3
-    shared-slice-read-contend-3
-    contend-requires
+    mul-j
+    shared-slice-read-j
+    mul-k
+    shared-slice-read-k
+    mul-h
+    shared-slice-read-h
+    spared-requires
+    own-key-requires
+    wins-requires
     add-i
     loop-less
     loop-again
