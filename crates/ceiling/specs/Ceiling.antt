@@ -39,7 +39,7 @@ use Rattle.ceiling.specs.Source.{in-list, Source, source}
 
 -- ---- how many moves
 
-none : (vs : List Move) → ((v : Move) → List·Memᴰ v vs → ⊥) → vs ≡ []
+pub none : (vs : List Move) → ((v : Move) → List·Memᴰ v vs → ⊥) → vs ≡ []
 none [] f = refl
 none (v ∷ vs) f = absurd (f v (List·Memᴰ·head refl))
 

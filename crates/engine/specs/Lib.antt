@@ -7,3 +7,4 @@ pub mod Edits
 pub mod Fitting
 pub mod Limits
 pub mod Paired
+pub mod Reaching

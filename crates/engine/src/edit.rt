@@ -5,7 +5,7 @@ ghost use mathlib.Core.List.{List};
 ghost use Prim.Native.Nat.{ℕ, _*_, _≤_};
 ghost use lib.ListN.{length};
 ghost use Rattle.definitions.specs.Frames.{framesIn};
-ghost use Rattle.definitions.specs.Map.{mapOf};
+ghost use Rattle.definitions.specs.Map.{Map, mapOf};
 ghost use Rattle.definitions.specs.Rule.{widthOf};
 ghost use Rattle.definitions.specs.Load.{loadNumber};
 ghost use Rattle.definitions.specs.Edit.{changeOf, put};
@@ -15,9 +15,13 @@ ghost use Rattle.text.specs.Shape.{shapeOf};
 ghost use Rattle.text.specs.RoundTrip.{Framed};
 ghost use Rattle.compile.specs.Tables.{Tabled};
 ghost use Rattle.compile.specs.Weighing.{bucketWeight};
+ghost use Rattle.survey.specs.Places.{placesAt, Runs};
+ghost use Rattle.survey.specs.Surveyed.{Surveyed};
+ghost use Rattle.survey.specs.Between.{Between, Answers};
 ghost use Rattle.engine.specs.Answers.{editAnswer};
 ghost use Rattle.engine.specs.Fitting.{Fitted, PlaceOf};
 ghost use Rattle.engine.specs.Paired.{Paired};
+ghost use Rattle.engine.specs.Reaching.{reachOf, Reaches};
 use blocks::independent;
 use blocks::widths;
 use compile::steps;
@@ -26,9 +30,13 @@ use frames::edit_frame;
 use frames::edit_frame::Found;
 use frames::records;
 use frames::shape;
+use hierarchy::Plan;
 use hierarchy::Rule;
+use hierarchy::Values;
 use survey::applies;
+use survey::looks::Reach;
 use survey::surveys;
+use survey::surveys::Findings;
 use text::Shape;
 
 // The number of the first question answered no, or 0, and how many places moved.
@@ -115,6 +123,43 @@ fn pair_of(map: &[u8], s: Shape, c: Change) -> Pair
     }
 }
 
+// Lowering an acceptance moves places only in groups whose row before it holds the device, raising it only in those whose row after it does.
+fn reach_of(d: u32, before: u32, after: u32) -> Reach
+    ensures { λ r. ⌜ r ≡ reachOf d before after ⌝ }
+{
+    if after <= before {
+        return Reach::Before(d);
+    }
+    Reach::After(d)
+}
+
+// Surveys the table for an edit, that of an acceptance within its reach.
+fn survey_edit<'a, 'b>(
+    plan: &'a Plan,
+    old: &'a Values,
+    new: &'a Values,
+    rule: Rule,
+    groups: u32,
+    w: usize,
+    table: &'b [u16],
+    c: Change,
+) -> Findings
+    requires { ⌜ Runs (now plan) (now old) rule w × Runs (now plan) (now new) rule w ⌝ }
+    requires { ⌜ (groups ≤ 65536) × (groups * w ≤ length (now table)) × Reaches (now plan) (now old) (now new) rule groups w c ⌝ }
+    ensures { λ s. ⌜ Surveyed w
+        (placesAt (now (plan .entry)) (now (old .entry)) rule w)
+        (placesAt (now (plan .entry)) (now (new .entry)) rule w)
+        groups (now (table .entry)) s ⌝ }
+    ensures { λ s. ⌜ ((m m′ : Map) → Between (now (plan .entry)) (now (old .entry)) (now (new .entry)) rule groups w m m′
+        → Answers m m′ (now (table .entry)) s) ⌝ }
+{
+    let Change::Acceptance(d, v) = c else {
+        return surveys::survey(plan, old, new, rule, groups, w, table);
+    };
+    let reach = reach_of(d, old[d as usize], v);
+    surveys::survey_within(plan, old, new, rule, groups, w, table, reach)
+}
+
 // An edit to which questions 14 to 18 were answered yes, of device k: 19 and 20, then all that it writes.
 fn edit_device(
     map: &mut [u8],
@@ -134,7 +179,7 @@ fn edit_device(
 {
     let p = pair_of(map, s, c);
     let rule = p.rule;
-    let found = surveys::survey(&p.plan, &p.old, &p.new, rule, groups, w, table);
+    let found = survey_edit(&p.plan, &p.old, &p.new, rule, groups, w, table, c);
     if !found.fresh {
         return refused(19);
     }

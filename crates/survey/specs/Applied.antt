@@ -21,7 +21,7 @@ use Rattle.definitions.specs.Rule.{padded}
 use Rattle.definitions.specs.Table.{tableOf}
 use Rattle.definitions.specs.Edit.{parting, causeOf, rowMovesTo, movesOf, movesBytes}
 use Rattle.hierarchy.specs.declared.Rule.{Rule}
-use Rattle.survey.specs.Rows.{differTo, differ-moves}
+use Rattle.survey.specs.Rows.{same-rows}
 use Rattle.survey.specs.Places.{listAt, placesAt, movesAt}
 use Rattle.survey.specs.Surveyed.{rowsTo, movesBy, rows-split}
 use Rattle.survey.specs.Changes.{changesTo, Written, changes-moves, written-none, written-more, written-length, bytes-append, length-bytes}
@@ -66,27 +66,7 @@ module _ (plan old new : List ℕ) (rule : Rule) (w g : ℕ) (l : Long plan old 
 
 -- ---- a row with no moves
 
--- no place differs
-same-places : (old new : List ℕ) (k : ℕ) → differTo old new k ≡ 0 → (i : ℕ) → i < k → getD old i 0 ≡ getD new i 0
-unfolding differTo
-same-places old new zero e i h = absurd (omega arith)
-same-places old new (suc k) e i h =
-    ⊎-elim (λ (p : i ≡ k). rw p (go (eqb (getD old k 0) (getD new k 0)) refl e)) (λ (l : i < k). same-places old new k (omega (arith, e)) i l)
-    (eq-or-lt-of-le (omega arith))
-  where
-    go : (b : Bool) → eqb (getD old k 0) (getD new k 0) ≡ b → differTo old new k + cond b 0 1 ≡ 0 → getD old k 0 ≡ getD new k 0
-    go true q z = eqb-true (getD old k 0) (getD new k 0) q
-    go false q z = absurd (omega (arith, z))
-
-same-rows : (g w : ℕ) (ps qs : List Place) → length (entriesOf ps) ≡ w → length (entriesOf qs) ≡ w → rowMovesTo g ps qs w ≡ [] → entriesOf ps ≡ entriesOf qs
-unfolding entriesOf
-same-rows g w ps qs a b e =
-    let m = length-map ps (λ (p : Place). p .entry) in
-    let n = length-map qs (λ (p : Place). p .entry) in
-    ext-getD 0 (entriesOf ps) (entriesOf qs) (a ∙ sym b)
-    (λ i h. same-places (entriesOf ps) (entriesOf qs) w (differ-moves g ps qs w (omega (arith, a, m)) (omega (arith, b, n)) ∙ ap length e) i (omega (arith, a, h)))
-
--- and nothing is written
+-- nothing is written
 unmoved : (u : List ℕ) (at : ℕ) (ms : List Move) → ms ≡ [] → at ≤ length u → Written u u at at (movesBytes ms)
 unfolding movesBytes bytesOf
 unmoved u at ms e h = rw e (written-none u at h)

@@ -45,7 +45,7 @@ pub record Between (plan old new : List ℕ) (rule : Rule) (k w : ℕ) (m m′ :
 -- ---- one map
 
 -- f gives the places of every group of m
-abbrev Gives : Map → (ℕ → List Place) → Type 0
+abbrev pub Gives : Map → (ℕ → List Place) → Type 0
 Gives m f = (x : ℕ) → f x ≡ placedOf m x .places
 
 -- by equal views and actions, as many as there are, the lists are the same
@@ -79,10 +79,10 @@ moves-to m m′ f f′ a b w k (suc n) h =
 -- ---- both maps
 
 module _ {plan old new : List ℕ} {rule : Rule} {groups w : ℕ} (m m′ : Map) (B : Between plan old new rule groups w m m′) where
-  gives : Gives m (placesAt plan old rule w)
+  pub gives : Gives m (placesAt plan old rule w)
   gives = places-placed m plan old rule w (B .view) (B .actions) (B .steps) (B .width)
 
-  gives′ : Gives m′ (placesAt plan new rule w)
+  pub gives′ : Gives m′ (placesAt plan new rule w)
   gives′ = places-placed m′ plan new rule w (B .view′) (B .actions′) (B .steps) (B .width′)
 
   -- the rows are the tables

@@ -3,5 +3,6 @@ pub mod Rows
 pub mod Places
 pub mod Surveyed
 pub mod Between
+pub mod Held
 pub mod Changes
 pub mod Applied

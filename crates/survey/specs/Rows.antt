@@ -1,13 +1,15 @@
 -- Two rows, place by place, and the moves of a row. Assumes nothing.
-use mathlib.Core.Path.{_≡_, refl, sym, ap₂, _∙_}
+use mathlib.Core.Path.{_≡_, refl, sym, ap, ap₂, _∙_}
 use mathlib.Core.Bool.{Bool, true, false, cond, false≢true}
 use mathlib.Core.List.{List, [], _∷_, _++_}
+use mathlib.Core.Logic.{⊎-elim}
 use Prim.Native.Nat.{ℕ, zero, suc, _+_, _<_, _≤_}
 use native.Mathlib.Omega.{arith}
 use native.Mathlib.Numerals.{add-one}
+use native.Mathlib.Nat.{eq-or-lt-of-le}
 use lib.Dec.{eqb}
-use lib.ListN.{length, getD, drop, length-append, drop-of-length-le}
-use lib.Seq.{drop-cons}
+use lib.ListN.{length, getD, drop, length-append, length-map, drop-of-length-le}
+use lib.Seq.{drop-cons, ext-getD}
 use borrow.Author.Tests.{eq-eqb, ne-eqb, eqb-true}
 use Rattle.definitions.specs.declared.Move.{Move}
 use Rattle.definitions.specs.Lists.{same}
@@ -52,6 +54,28 @@ differ-moves g ps qs (suc k) h l =
         → differTo (entriesOf ps) (entriesOf qs) k + cond b 0 1 ≡ length (rowMovesTo g ps qs k ++ cond b [] (v ∷ []))
     go true v e = sym (length-append (rowMovesTo g ps qs k) [] ∙ omega (arith, e))
     go false v e = sym (length-append (rowMovesTo g ps qs k) (v ∷ []) ∙ omega (arith, e))
+
+-- ---- a row with no moves
+
+-- no place differs
+same-places : (old new : List ℕ) (k : ℕ) → differTo old new k ≡ 0 → (i : ℕ) → i < k → getD old i 0 ≡ getD new i 0
+unfolding differTo
+same-places old new zero e i h = absurd (omega arith)
+same-places old new (suc k) e i h =
+    ⊎-elim (λ (p : i ≡ k). rw p (go (eqb (getD old k 0) (getD new k 0)) refl e)) (λ (l : i < k). same-places old new k (omega (arith, e)) i l)
+    (eq-or-lt-of-le (omega arith))
+  where
+    go : (b : Bool) → eqb (getD old k 0) (getD new k 0) ≡ b → differTo old new k + cond b 0 1 ≡ 0 → getD old k 0 ≡ getD new k 0
+    go true q z = eqb-true (getD old k 0) (getD new k 0) q
+    go false q z = absurd (omega (arith, z))
+
+pub same-rows : (g w : ℕ) (ps qs : List Place) → length (entriesOf ps) ≡ w → length (entriesOf qs) ≡ w → rowMovesTo g ps qs w ≡ [] → entriesOf ps ≡ entriesOf qs
+unfolding entriesOf
+same-rows g w ps qs a b e =
+    let m = length-map ps (λ (p : Place). p .entry) in
+    let n = length-map qs (λ (p : Place). p .entry) in
+    ext-getD 0 (entriesOf ps) (entriesOf qs) (a ∙ sym b)
+    (λ i h. same-places (entriesOf ps) (entriesOf qs) w (differ-moves g ps qs w (omega (arith, a, m)) (omega (arith, b, n)) ∙ ap length e) i (omega (arith, a, h)))
 
 -- ---- the same rows
 

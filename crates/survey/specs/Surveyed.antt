@@ -1,7 +1,7 @@
 -- The rows and the moves of the groups below a number, and what a survey of the table finds. Assumes nothing.
 use mathlib.Core.Path.{_≡_, refl, sym, ap, ap₂, _∙_, subst}
 use mathlib.Core.Bool.{Bool, true, false, cond, false≢true}
-use mathlib.Core.List.{List, [], _∷_, _++_, append-nil, append-assoc}
+use mathlib.Core.List.{List, [], _∷_, _++_, append-nil, append-assoc, List·Memᴰ, Memᴰ·append-left, Memᴰ·append-right}
 use mathlib.Core.Logic.{⊎-elim}
 use Prim.Native.Nat.{ℕ, zero, suc, _+_, _*_, _<_, _≤_}
 use native.Mathlib.Omega.{arith}
@@ -40,6 +40,14 @@ rows-split f (suc n) g h =
     (λ (l : g < n). let (rest, q) = rows-split f n g l in
     (rest ++ entriesOf (f n), rw (q, append-assoc (rowsTo f g) (entriesOf (f g) ++ rest) (entriesOf (f n)), append-assoc (entriesOf (f g)) rest (entriesOf (f n)))))
     (eq-or-lt-of-le (omega arith))
+
+-- and so do its moves
+pub moves-among : (w : ℕ) (f f′ : ℕ → List Place) (n g : ℕ) (v : Move) → g < n → List·Memᴰ v (rowMovesTo g (f g) (f′ g) w) → List·Memᴰ v (movesBy w f f′ n)
+unfolding movesBy
+moves-among w f f′ zero g v h i = absurd (omega arith)
+moves-among w f f′ (suc n) g v h i =
+    ⊎-elim (λ (e : g ≡ n). Memᴰ·append-right (movesBy w f f′ n) (subst (λ (k : ℕ). List·Memᴰ v (rowMovesTo k (f k) (f′ k) w)) e i))
+    (λ (l : g < n). Memᴰ·append-left _ (moves-among w f f′ n g v l i)) (eq-or-lt-of-le (omega arith))
 
 -- row g ends within n rows
 pub room : (g n w : ℕ) → g < n → g * w + w ≤ n * w

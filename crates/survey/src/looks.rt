@@ -1,8 +1,10 @@
-// One group in both runs, beside its row of the table.
+// One group in both runs, or in one where no place of it moves, beside its row of the table.
 ghost use mathlib.Core.Path.{_≡_};
+ghost use mathlib.Core.Bool.{cond};
+ghost use mathlib.Core.List.{List};
 ghost use lib.ListN.{length, take};
-ghost use Rattle.definitions.specs.Select.{entriesOf};
-ghost use Rattle.survey.specs.Places.{placesAt, Runs, Stood, Looked};
+ghost use Rattle.definitions.specs.Select.{Place, entriesOf};
+ghost use Rattle.survey.specs.Places.{placesAt, Runs, Stood, Looked, LookedAt, Within};
 use crate::rows;
 use hierarchy::Plan;
 use hierarchy::Rule;
@@ -13,6 +15,13 @@ use placement::rule;
 pub enum Glance {
     Stale,
     Moves(u32),
+}
+
+// In which groups an edit can move places: in all, in those whose old row holds the device, or in those whose new row does.
+pub enum Reach {
+    Anywhere,
+    Before(u32),
+    After(u32),
 }
 
 // The w places of group x, at the front of the array.
@@ -41,8 +50,38 @@ pub fn stands<'a, 'b>(
     rows::same_row(row, &places[..w])
 }
 
-// Places group x by both runs: w places, of which the row should hold the old.
-pub fn look<'a, 'b>(
+// Group x, whose new places these are, placed by the old run: w places, which the row should hold.
+fn beside<'a, 'b, 'c>(
+    plan: &'a Plan,
+    old: &'a Values,
+    rule: Rule,
+    x: u32,
+    w: usize,
+    row: &'b [u16],
+    after: &'c [u16],
+) -> Glance
+    requires { ⌜ Runs (now plan) (now old) rule w × (length (now row) ≡ w) × (length (now after) ≡ w) ⌝ }
+    ensures { λ o. ⌜ ((qs : List Place) → now (after .entry) ≡ entriesOf qs
+        → Looked (placesAt (now (plan .entry)) (now (old .entry)) rule w x) qs w x (now (row .entry)) o) ⌝ }
+{
+    if !stands(plan, old, rule, x, w, row) {
+        return Glance::Stale;
+    }
+    Glance::Moves(rows::count_row(row, after))
+}
+
+// A group of which no place moves.
+fn unmoved(fresh: bool) -> Glance
+    ensures { λ o. ⌜ o ≡ cond fresh (Glance.Moves 0) Glance.Stale ⌝ }
+{
+    if fresh {
+        return Glance::Moves(0);
+    }
+    Glance::Stale
+}
+
+// Places group x by both runs.
+fn look_anywhere<'a, 'b>(
     plan: &'a Plan,
     old: &'a Values,
     new: &'a Values,
@@ -52,14 +91,73 @@ pub fn look<'a, 'b>(
     row: &'b [u16],
 ) -> Glance
     requires { ⌜ Runs (now plan) (now old) rule w × Runs (now plan) (now new) rule w × (length (now row) ≡ w) ⌝ }
-    ensures { λ o. ⌜ Looked
-        (placesAt (now (plan .entry)) (now (old .entry)) rule w x)
-        (placesAt (now (plan .entry)) (now (new .entry)) rule w x)
-        w x (now (row .entry)) o ⌝ }
+    ensures { λ o. ⌜ LookedAt (now (plan .entry)) (now (old .entry)) (now (new .entry)) rule w x (now (row .entry)) o ⌝ }
 {
-    if !stands(plan, old, rule, x, w, row) {
-        return Glance::Stale;
-    }
     let after = row_of(plan, new, rule, x, w);
-    Glance::Moves(rows::count_row(row, &after[..w]))
+    beside(plan, old, rule, x, w, row, &after[..w])
+}
+
+// Where places move only if the old row holds device d: a row without it is placed by the old run alone.
+fn look_before<'a, 'b>(
+    plan: &'a Plan,
+    old: &'a Values,
+    new: &'a Values,
+    rule: Rule,
+    x: u32,
+    w: usize,
+    row: &'b [u16],
+    d: u32,
+) -> Glance
+    requires { ⌜ Runs (now plan) (now old) rule w × Runs (now plan) (now new) rule w × (length (now row) ≡ w) ⌝ }
+    requires { ⌜ Within (Reach.Before d) (now plan) (now old) (now new) rule w x ⌝ }
+    ensures { λ o. ⌜ LookedAt (now (plan .entry)) (now (old .entry)) (now (new .entry)) rule w x (now (row .entry)) o ⌝ }
+{
+    if rows::holds(row, d) != 0 {
+        return look_anywhere(plan, old, new, rule, x, w, row);
+    }
+    unmoved(stands(plan, old, rule, x, w, row))
+}
+
+// Where places move only if the new row holds device d: a new row without it is the old one too.
+fn look_after<'a, 'b>(
+    plan: &'a Plan,
+    old: &'a Values,
+    new: &'a Values,
+    rule: Rule,
+    x: u32,
+    w: usize,
+    row: &'b [u16],
+    d: u32,
+) -> Glance
+    requires { ⌜ Runs (now plan) (now old) rule w × Runs (now plan) (now new) rule w × (length (now row) ≡ w) ⌝ }
+    requires { ⌜ Within (Reach.After d) (now plan) (now old) (now new) rule w x ⌝ }
+    ensures { λ o. ⌜ LookedAt (now (plan .entry)) (now (old .entry)) (now (new .entry)) rule w x (now (row .entry)) o ⌝ }
+{
+    let after = row_of(plan, new, rule, x, w);
+    if rows::holds(&after[..w], d) != 0 {
+        return beside(plan, old, rule, x, w, row, &after[..w]);
+    }
+    unmoved(rows::same_row(row, &after[..w]))
+}
+
+// Places group x, of which an edit of this reach may move places, by one run or both: w places, of which the row should hold the old.
+pub fn look<'a, 'b>(
+    plan: &'a Plan,
+    old: &'a Values,
+    new: &'a Values,
+    rule: Rule,
+    x: u32,
+    w: usize,
+    row: &'b [u16],
+    reach: Reach,
+) -> Glance
+    requires { ⌜ Runs (now plan) (now old) rule w × Runs (now plan) (now new) rule w × (length (now row) ≡ w) ⌝ }
+    requires { ⌜ Within reach (now plan) (now old) (now new) rule w x ⌝ }
+    ensures { λ o. ⌜ LookedAt (now (plan .entry)) (now (old .entry)) (now (new .entry)) rule w x (now (row .entry)) o ⌝ }
+{
+    match reach {
+        Reach::Anywhere => look_anywhere(plan, old, new, rule, x, w, row),
+        Reach::Before(d) => look_before(plan, old, new, rule, x, w, row, d),
+        Reach::After(d) => look_after(plan, old, new, rule, x, w, row, d),
+    }
 }

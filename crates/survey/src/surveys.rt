@@ -1,15 +1,16 @@
 // Document 01, "Questions at the door", 19 and 20: the whole table beside what fill gives, and the number of an edit's moves.
 ghost use mathlib.Core.Path.{_≡_};
 ghost use mathlib.Core.Bool.{cond};
-ghost use Prim.Native.Nat.{_*_, _≤_};
+ghost use Prim.Native.Nat.{ℕ, _*_, _<_, _≤_};
 ghost use lib.Dec.{eqb};
 ghost use lib.ListN.{length};
 ghost use Rattle.definitions.specs.Map.{Map};
-ghost use Rattle.survey.specs.Places.{placesAt, Runs};
+ghost use Rattle.survey.specs.Places.{placesAt, Runs, Within};
 ghost use Rattle.survey.specs.Between.{Between, Answers};
 ghost use Rattle.survey.specs.Surveyed.{Surveyed};
 use crate::looks;
 use crate::looks::Glance;
+use crate::looks::Reach;
 use hierarchy::Plan;
 use hierarchy::Rule;
 use hierarchy::Values;
@@ -36,8 +37,8 @@ fn mark(k: u32) -> u8
     1
 }
 
-// Looks at every group below groups, w places wide each, and writes nothing.
-pub fn survey<'a, 'b>(
+// Looks at every group below groups, w places wide each, and writes nothing. Places move within the reach alone.
+pub fn survey_within<'a, 'b>(
     plan: &'a Plan,
     old: &'a Values,
     new: &'a Values,
@@ -45,9 +46,11 @@ pub fn survey<'a, 'b>(
     groups: u32,
     w: usize,
     table: &'b [u16],
+    reach: Reach,
 ) -> Findings
     requires { ⌜ Runs (now plan) (now old) rule w × Runs (now plan) (now new) rule w ⌝ }
     requires { ⌜ (groups ≤ 65536) × (groups * w ≤ length (now table)) ⌝ }
+    requires { ⌜ ((g : ℕ) → g < groups → Within reach (now plan) (now old) (now new) rule w g) ⌝ }
     ensures { λ s. ⌜ Surveyed w
         (placesAt (now (plan .entry)) (now (old .entry)) rule w)
         (placesAt (now (plan .entry)) (now (new .entry)) rule w)
@@ -61,7 +64,7 @@ pub fn survey<'a, 'b>(
     while g < groups {
         let a = g as usize * w;
         let e = a + w;
-        let o = looks::look(plan, old, new, rule, g, w, &table[a..e]);
+        let o = looks::look(plan, old, new, rule, g, w, &table[a..e], reach);
         match o {
             Glance::Stale => {
                 return Findings {
@@ -82,4 +85,26 @@ pub fn survey<'a, 'b>(
         moves: moves,
         changed: changed,
     }
+}
+
+// Looks at every group, of which any may have places that move.
+pub fn survey<'a, 'b>(
+    plan: &'a Plan,
+    old: &'a Values,
+    new: &'a Values,
+    rule: Rule,
+    groups: u32,
+    w: usize,
+    table: &'b [u16],
+) -> Findings
+    requires { ⌜ Runs (now plan) (now old) rule w × Runs (now plan) (now new) rule w ⌝ }
+    requires { ⌜ (groups ≤ 65536) × (groups * w ≤ length (now table)) ⌝ }
+    ensures { λ s. ⌜ Surveyed w
+        (placesAt (now (plan .entry)) (now (old .entry)) rule w)
+        (placesAt (now (plan .entry)) (now (new .entry)) rule w)
+        groups (now (table .entry)) s ⌝ }
+    ensures { λ s. ⌜ ((m m′ : Map) → Between (now (plan .entry)) (now (old .entry)) (now (new .entry)) rule groups w m m′
+        → Answers m m′ (now (table .entry)) s) ⌝ }
+{
+    survey_within(plan, old, new, rule, groups, w, table, Reach::Anywhere)
 }

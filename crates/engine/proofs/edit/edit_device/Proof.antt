@@ -11,6 +11,7 @@ use Rattle.text.specs.Agreement.{loaded-map}
 use Rattle.survey.specs.Between.{Between, Answers, few, selects, old-long, new-long}
 use Rattle.survey.specs.Surveyed.{fresh-rows}
 use Rattle.engine.specs.Paired.{Asked, between, both-run}
+use Rattle.engine.specs.Reaching.{reaches}
 use Rattle.engine.specs.Editing.{room-for, stale, short, done}
 use borrow.Author.Needs.{needs}
 use borrow.Author.Tests.{not-true, not-false}
@@ -39,7 +40,7 @@ room : (s : tie.Start) → old s .groups * widthOf (old s) ≤ length (s .args .
 room s = subst (λ (n : ℕ). n ≤ length (s .args .table .now)) (ap₂ (λ (a b : ℕ). a * b) (s .pre .1 .1 .0) (s .pre .1 .1 .1)) (s .pre .1 .1 .2)
 
 -- where the pair is made
-abbrev pair : tie.After-survey → tie.After-pair-of
+abbrev pair : tie.After-survey-edit → tie.After-pair-of
 pair c = c .before .before .before .before .before .before .before
 
 abbrev start : tie.After-pair-of → tie.Start
@@ -51,21 +52,21 @@ maps : (c : tie.After-pair-of) → let s = start c in
 maps c = let s = start c in between (old s) (s .args .c) _ _ (c .pair-of .result) (c .pair-of .ensures) (asked s)
 
 -- what the survey answers of the two maps
-answers : (c : tie.After-survey) → let s = start (pair c) in Answers (old s) (new s) (s .args .table .now) (c .survey .result)
-answers c = let s = start (pair c) in c .survey .ensures .1 (old s) (new s) (maps (pair c))
+answers : (c : tie.After-survey-edit) → let s = start (pair c) in Answers (old s) (new s) (s .args .table .now) (c .survey-edit .result)
+answers c = let s = start (pair c) in c .survey-edit .ensures .1 (old s) (new s) (maps (pair c))
 
 -- and there is a mark for each group
-marks : (c : tie.After-survey) → length (c .survey .result .changed) ≡ 65536
-marks c = search (needs, c .survey .ok)
+marks : (c : tie.After-survey-edit) → length (c .survey-edit .result .changed) ≡ 65536
+marks c = search (needs, c .survey-edit .ok)
 
 pair-of-requires : tie.Need-pair-of-requires
 pair-of-requires c κs = search needs
 
-survey-requires : tie.Need-survey-requires
-survey-requires c κs =
+survey-edit-requires : tie.Need-survey-edit-requires
+survey-edit-requires c κs =
     let k = c .before .before .before .before .before .before in
     let s = start k in
-    (both-run (old s) (s .args .c) _ _ (k .pair-of .result) (k .pair-of .ensures) (asked s), (few (old s) (new s) (maps k), s .pre .1 .1 .2))
+    (both-run (old s) (s .args .c) _ _ (k .pair-of .result) (k .pair-of .ensures) (asked s), (few (old s) (new s) (maps k), s .pre .1 .1 .2, reaches (old s) (s .args .c) _ _ (k .pair-of .result) (k .pair-of .ensures) (asked s)))
 
 refused-requires : tie.Need-refused-requires
 refused-requires c κs = search needs
@@ -80,7 +81,7 @@ returns : tie.Need-returns
 returns c =
     let v = c .before .before in
     let s = start (pair v) in
-    λ e q. stale (s .args .map .now) (s .args .table .now) e (s .args .space .now) (s .args .c) q (s .pre .0 .0) (room s) (s .pre .0 .2) (s .pre .1 .0 .0) (v .survey .result)
+    λ e q. stale (s .args .map .now) (s .args .table .now) e (s .args .space .now) (s .args .c) q (s .pre .0 .0) (room s) (s .pre .0 .2) (s .pre .1 .0 .0) (v .survey-edit .result)
     (answers v) (not-true _ (c .before .if1 .taken)) _ (c .refused .ensures)
 
 cast-if2 : tie.Need-cast-if2
@@ -99,7 +100,7 @@ returns-2 : tie.Need-returns-2
 returns-2 c =
     let v = c .before .before .before in
     let s = start (pair v) in
-    λ e q. short (s .args .map .now) (s .args .table .now) e (s .args .space .now) (s .args .c) q (s .pre .0 .0) (room s) (s .pre .0 .2) (s .pre .1 .0 .0) (v .survey .result)
+    λ e q. short (s .args .map .now) (s .args .table .now) e (s .args .space .now) (s .args .c) q (s .pre .0 .0) (room s) (s .pre .0 .2) (s .pre .1 .0 .0) (v .survey-edit .result)
     (answers v) (not-false _ (c .before .before .if1 .left)) (c .before .if2 .taken) _ (c .refused2 .ensures)
 
 apply-requires : tie.Need-apply-requires
@@ -111,8 +112,8 @@ apply-requires c κs =
     let b = maps k in
     let r = both-run (old s) (s .args .c) _ _ (k .pair-of .result) (k .pair-of .ensures) (asked s) in
     let g = few (old s) (new s) b in
-    let S = v .survey .ensures .0 in
-    let fresh : v .survey .result .fresh ≡ true = not-false _ (t .before .if1 .left) in (
+    let S = v .survey-edit .ensures .0 in
+    let fresh : v .survey-edit .result .fresh ≡ true = not-false _ (t .before .if1 .left) in (
       (r .0, r .1, selects (old s) (new s) b),
       (
         (old-long (old s) (new s) b, new-long (old s) (new s) b),
@@ -152,7 +153,7 @@ returns-3 c =
     let v = t .before .before in
     let s = start (pair v) in
     let w = p .apply .ensures (old s) (new s) (maps (pair v)) in
-    λ e q. done (s .args .map .now) (s .args .table .now) e (s .args .space .now) (s .args .c) q (s .pre .0 .0) (room s) (s .pre .0 .2) (s .pre .1 .0 .0) (v .survey .result)
+    λ e q. done (s .args .map .now) (s .args .table .now) e (s .args .space .now) (s .args .c) q (s .pre .0 .0) (room s) (s .pre .0 .2) (s .pre .1 .0 .0) (v .survey-edit .result)
     (answers v) (not-false _ (t .before .if1 .left)) (t .if2 .left) _ _ _ (c .before .before .put-value .ensures) (w .0) (w .1)
 
 pub edit-device-spec : {M : Type 1} → statement M
@@ -160,7 +161,7 @@ edit-device-spec =
     tie.close
     (tie.spec
     pair-of-requires
-    survey-requires
+    survey-edit-requires
     refused-requires
     same-length
     same-length-2

@@ -1,67 +1,58 @@
--- `survey::looks::look` meets its contract. Assumes nothing.
-use mathlib.Core.Path.{_≡_, sym, _∙_}
-use mathlib.Core.List.{List}
-use native.Mathlib.Omega.{arith}
+-- `survey::looks::look` meets its contract: one look for each reach. Assumes nothing.
+use mathlib.Core.Path.{_≡_, subst}
 use borrow.Author.Needs.{needs}
-use lib.ListN.{length, take}
-use lib.Seq.{length-take-le}
-use Rattle.definitions.specs.Select.{Place}
-use Rattle.survey.specs.Places.{placesAt, looked-stale, looked-moves}
+use Rattle.survey.specs.declared.looks.Reach.{Reach}
+use Rattle.survey.specs.Places.{Within}
 use Rattle.survey.proofs.looks.look.Statement.{statement}
 use Rattle.survey.proofs.looks.look.Tie as tie
 
-stands-requires : tie.Need-stands-requires
-stands-requires c κs = let s = c .before in (s .pre .0, s .pre .2)
+-- the edit keeps to the reach that was found
+within : (s : tie.Start) (reach : Reach) → s .args .reach ≡ reach → let a = s .args in Within reach (a .plan .now) (a .old .now) (a .new .now) (a .rule) (a .w) (a .x)
+within s reach e = let a = s .args in subst (λ (r : Reach). Within r (a .plan .now) (a .old .now) (a .new .now) (a .rule) (a .w) (a .x)) e (s .pre .1)
 
--- the places of the group in the old run and in the new
-abbrev olds : tie.Start → List Place
-olds s = let a = s .args in placesAt (a .plan .now) (a .old .now) (a .rule) (a .w) (a .x)
+enum-told : tie.Need-enum-told
+enum-told c = search needs
 
-abbrev news : tie.Start → List Place
-news s = let a = s .args in placesAt (a .plan .now) (a .new .now) (a .rule) (a .w) (a .x)
+look-anywhere-requires : tie.Need-look-anywhere-requires
+look-anywhere-requires c κs = search needs
+
+enum-known-reach : tie.Need-enum-known-reach
+enum-known-reach c = search needs
+
+look-before-requires : tie.Need-look-before-requires
+look-before-requires c κs =
+    let e = c .before in
+    let s = e .before .before .before in
+    (s .pre .0, within s _ (e .reach .given .1))
+
+enum-known-reach-2 : tie.Need-enum-known-reach-2
+enum-known-reach-2 c = search needs
+
+look-after-requires : tie.Need-look-after-requires
+look-after-requires c κs =
+    let e = c .before in
+    let s = e .before .before .before in
+    (s .pre .0, within s _ (e .reach2 .given .1))
 
 returns : tie.Need-returns
-returns c =
-    let s = c .before .before .before in
-    looked-stale (olds s) (news s) (s .args .w) (s .args .x) (s .args .row .now) (c .before .stands .result) (c .before .stands .ensures) (c .if1 .taken)
-
-row-of-requires : tie.Need-row-of-requires
-row-of-requires c κs = c .before .before .before .pre .1
-
-array-share-prefix-after : tie.Need-array-share-prefix-after
-array-share-prefix-after c = search needs
-
--- w of 32 places are taken
-taken : (c : tie.After-row-of)
-    → let s = c .before .before .before .before in length (take (s .args .w) (c .row-of .result)) ≡ s .args .w
-taken c =
-    let s = c .before .before .before .before in
-    let l : length (c .row-of .result) ≡ 32 = search needs in
-    length-take-le (s .args .w) (c .row-of .result) (omega (arith, l, s .pre .0 .3))
-
-slice-aggregate-count-row : tie.Need-slice-aggregate-count-row
-slice-aggregate-count-row c = sym (taken (c .before))
-
-count-row-requires : tie.Need-count-row-requires
-count-row-requires c κs =
-    let s = c .before .before .before .before .before in
-    (s .pre .2 ∙ sym (taken (c .before)), omega (arith, s .pre .0 .3, s .pre .2))
+returns c = search needs
 
 returns-2 : tie.Need-returns-2
-returns-2 c =
-    let q = c .before .before in
-    let t = q .before in
-    let s = t .before .before .before in
-    looked-moves (olds s) (news s) (s .args .w) (s .args .x) (c .count-row .result) (s .args .row .now) _ (t .before .stands .result) (s .pre .2) (t .before .stands .ensures) (t .if1 .left) (taken q) (q .row-of .ensures) (c .count-row .ensures .0) (c .count-row .ensures .1)
+returns-2 c = search needs
+
+returns-3 : tie.Need-returns-3
+returns-3 c = search needs
 
 pub look-spec : {M : Type 1} → statement M
 look-spec =
     tie.close
     (tie.spec
-    stands-requires
+    enum-told
+    look-anywhere-requires
+    enum-known-reach
+    look-before-requires
+    enum-known-reach-2
+    look-after-requires
     returns
-    row-of-requires
-    array-share-prefix-after
-    slice-aggregate-count-row
-    count-row-requires
-    returns-2)
+    returns-2
+    returns-3)
