@@ -2,3 +2,4 @@
 pub mod Told
 pub mod Under
 pub mod Beside
+pub mod Joint

@@ -17,6 +17,9 @@ ghost use Rattle.placement.specs.Ruled.{Ready};
 ghost use Rattle.placement.specs.Progress.{Acted};
 ghost use Rattle.causes.specs.Under.{TellsUnder, TellsTo};
 ghost use Rattle.causes.specs.Beside.{Able, Listed, Worked, Leads};
+
+pub mod joint;
+
 use blocks::actions;
 use definitions::Action;
 use hierarchy::Plan;

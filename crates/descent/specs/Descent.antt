@@ -70,20 +70,26 @@ module _ {plan : List ℕ} (sound : Sound plan) (values : List ℕ) where
       let lt : j < n = omega (arith, l, length-take n rest) in
       (j, lt, sym (getD-take n rest j 0 lt ∙ getD-drop (firstIn plan b) (childrenIn plan) j 0) ∙ at)
 
-  -- the draw at bucket b, by its part of the plan and of the values, which begins at a and has n words
-  module _ (x r b k a n : ℕ) (h : b < 256) (here : k ≡ b) (begins : a ≡ childrenAt + firstIn plan b) (many : n ≡ countIn plan b) (d : Drawn) where
-    part-is : (xs : List ℕ) → partOf plan b xs ≡ take n (drop a xs)
-    part-is xs = rw (begins, many) (section-part childrenAt 1280 (firstIn plan b) (countIn plan b) xs (sound .inside b h))
+  -- the part of bucket b begins at a and has n words
+  pub part-is : (b a n : ℕ) → b < 256 → a ≡ childrenAt + firstIn plan b → n ≡ countIn plan b → (xs : List ℕ) → partOf plan b xs ≡ take n (drop a xs)
+  part-is b a n h begins many xs = rw (begins, many) (section-part childrenAt 1280 (firstIn plan b) (countIn plan b) xs (sound .inside b h))
 
+  -- the draw at bucket b, by its part of the plan and of the values
+  module _ (x r b k a n : ℕ) (h : b < 256) (here : k ≡ b) (begins : a ≡ childrenAt + firstIn plan b) (many : n ≡ countIn plan b) (d : Drawn) where
     pub straw-is : (getD plan (kindsAt + k) 0 ≡ 2 → ⊥) → d ≡ drawOf (seedIn plan) x r (take n (drop a plan)) (take n (drop a values)) → d ≡ drawAt v x r b
     unfolding drawAt drawBy weightsBy
-    straw-is f e = rw (section-at kindsAt 256 b plan h, ← here, ne-eqb (getD plan (kindsAt + k) 0) 2 f, here, part-is plan, part-is values) e
+    straw-is f e = rw (section-at kindsAt 256 b plan h, ← here, ne-eqb (getD plan (kindsAt + k) 0) 2 f, here, part-is b a n h begins many plan, part-is b a n h begins many values) e
 
     pub tree-is : getD plan (kindsAt + k) 0 ≡ 2
         → d ≡ treeOf (seedIn plan) x r (bucketItem b) (weightsFrom (take n (drop a values)) (length (take n (drop a plan)))) (take n (drop a plan))
         → d ≡ drawAt v x r b
     unfolding drawAt drawBy weightsBy
-    tree-is f e = rw (section-at kindsAt 256 b plan h, ← here, eq-eqb (getD plan (kindsAt + k) 0) 2 f, here, part-is plan, part-is values) e
+    tree-is f e = rw (section-at kindsAt 256 b plan h, ← here, eq-eqb (getD plan (kindsAt + k) 0) 2 f, here, part-is b a n h begins many plan, part-is b a n h begins many values) e
+
+  -- other values that weigh the children of bucket b alike draw the same there
+  pub draw-alike : (new : List ℕ) (x r b : ℕ) → partOf plan b values ≡ partOf plan b new → drawAt v x r b ≡ drawAt (viewIn plan new) x r b
+  unfolding drawAt
+  draw-alike new x r b e = rw e
 
   -- no bucket that is not in the plan has a child
   pub within-plan : (x r b i : ℕ) → drawAt v x r b ≡ Winner i → b < 256

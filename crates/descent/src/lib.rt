@@ -1,12 +1,13 @@
 // Document 01, "Walk, select and rule": the draw at a bucket of either kind, and the descent from a bucket to an item of the wanted type.
 ghost use mathlib.Core.Path.{_≡_};
+ghost use mathlib.Core.Bool.{true};
 ghost use Prim.Native.Nat.{_+_, _<_, _≤_};
 ghost use lib.ListN.{length, take, drop};
 ghost use Rattle.definitions.specs.Straw.{drawOf};
 ghost use Rattle.definitions.specs.Tree.{treeOf};
 ghost use Rattle.definitions.specs.Walk.{drawAt, descend};
 ghost use Rattle.hierarchy.specs.Sums.{weightsFrom};
-ghost use Rattle.hierarchy.specs.Arrays.{typeIn, viewIn, ItemRange, Sound};
+ghost use Rattle.hierarchy.specs.Arrays.{typeIn, partOf, viewIn, ItemRange, Sound};
 ghost use Rattle.descent.specs.Descent.{LandedBounds};
 use definitions::Drawn;
 use definitions::Landed;
@@ -69,6 +70,68 @@ pub fn draw_at<'a>(plan: &'a Plan, values: &'a Values, x: u32, r: u32, b: u32) -
     } else {
         straw_part(plan, values, seed, x, r, a, n)
     }
+}
+
+// 1 where the two words differ.
+fn differs(a: u32, b: u32) -> u32
+    ensures { λ r. ⌜ (r ≤ 1) × (r ≡ 0 → a ≡ b) ⌝ }
+{
+    if a == b {
+        return 0;
+    }
+    1
+}
+
+// Are the two the same, word by word? All words are looked at, so that the compiler can compare several at once.
+fn same_words<'a, 'b>(old: &'a [u32], new: &'b [u32]) -> bool
+    requires { ⌜ (length (now old) ≡ length (now new)) × (length (now old) ≤ 64) ⌝ }
+    ensures { λ r. ⌜ (r ≡ true → now (old .entry) ≡ now (new .entry)) ⌝ }
+{
+    let mut count: u32 = 0;
+    let mut i: usize = 0;
+    while i < old.len() {
+        count += differs(old[i], new[i]);
+        i += 1;
+    }
+    count == 0
+}
+
+fn same_part<'a, 'b>(old: &'a [u32], new: &'b [u32], a: usize, n: usize) -> bool
+    requires { ⌜ (a + n ≤ length (now old)) × (a + n ≤ length (now new)) × (n ≤ 64) ⌝ }
+    ensures { λ r. ⌜ (r ≡ true → take n (drop a (now (old .entry))) ≡ take n (drop a (now (new .entry)))) ⌝ }
+{
+    let e = a + n;
+    same_words(&old[a..e], &new[a..e])
+}
+
+// Do two lists of values weigh the children of bucket b alike?
+fn alike<'a>(plan: &'a Plan, old: &'a Values, new: &'a Values, b: u32) -> bool
+    requires { ⌜ Sound (now plan) × (b < 256) ⌝ }
+    ensures { λ r. ⌜ (r ≡ true → partOf (now (plan .entry)) b (now (old .entry)) ≡ partOf (now (plan .entry)) b (now (new .entry))) ⌝ }
+{
+    let k = wide(b);
+    let a = hierarchy::CHILDREN + wide(plan[k]);
+    let n = wide(plan[hierarchy::COUNT + k]);
+    same_part(old, new, a, n)
+}
+
+// The draw at bucket b by other values, where d is that by the old: it is made only where they do not weigh the children alike.
+pub fn draw_again<'a>(
+    plan: &'a Plan,
+    old: &'a Values,
+    new: &'a Values,
+    x: u32,
+    r: u32,
+    b: u32,
+    d: Drawn,
+) -> Drawn
+    requires { ⌜ Sound (now plan) × (b < 256) × (d ≡ drawAt (viewIn (now plan) (now old)) x r b) ⌝ }
+    ensures { λ e. ⌜ e ≡ drawAt (viewIn (now (plan .entry)) (now (new .entry))) x r b ⌝ }
+{
+    if alike(plan, old, new, b) {
+        return d;
+    }
+    draw_at(plan, new, x, r, b)
 }
 
 // The descent from bucket b, which ends with a draw of none or of an item whose type is not above t.

@@ -26,7 +26,7 @@ pub fn meet<'a>(
     ensures bounds { λ m. ⌜ MeetingBounds m ⌝ }
 {
     let d = descent::draw_at(plan, old, x, r, b);
-    let d2 = descent::draw_at(plan, new, x, r, b);
+    let d2 = descent::draw_again(plan, old, new, x, r, b, d);
     if !partings::same_drawn(d, d2) {
         return Meeting::Apart(Parting::Draw(d, d2));
     }

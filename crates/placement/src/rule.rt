@@ -174,7 +174,7 @@ fn place_at(list: &[u32], i: usize) -> u16
 }
 
 // "unused places at the end are ffff"
-fn write_row(list: &[u32], row: &mut [u16])
+pub fn write_row(list: &[u32], row: &mut [u16])
     requires { ⌜ Each Small (now list) × (length (now list) ≤ length (now row)) ⌝ }
     ensures { λ _. ⌜ now (row .exit) ≡ filledUp (length (now (row .entry))) (now (list .entry)) ⌝ }
 {

@@ -26,7 +26,7 @@ pub struct Chosen {
 }
 
 // "independent leaves a hole (ffff), first-n leaves out the place"
-fn leaves_out(mode: Mode, e: u32) -> bool
+pub fn leaves_out(mode: Mode, e: u32) -> bool
     ensures { λ r. ⌜ r ≡ leftOut mode e ⌝ }
 {
     match mode {

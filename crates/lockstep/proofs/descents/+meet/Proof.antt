@@ -19,6 +19,7 @@ use Rattle.lockstep.proofs.descents.meet.Reads as meet
 use Rattle.lockstep.proofs.descents.meet.Kinds as meet-kinds
 use Rattle.lockstep.proofs.descents.+meet.Lts-meet as meet-lts
 use Rattle.descent.proofs.draw_at.Reads as draw-at-reads
+use Rattle.descent.proofs.draw_again.Reads as draw-again-reads
 use Rattle.descent.proofs.type_of.Reads as type-of-reads
 use Rattle.item.proofs.Item.numbered.Reads as numbered-reads
 use Rattle.item.proofs.Item.bucket_number.Reads as bucket-number-reads
@@ -40,6 +41,8 @@ abbrev gs : ℕ → meet-lts.Claims
 gs t = (
   draw-at-reads.Asked,
   draw-at-reads.Learnt,
+  draw-again-reads.Asked,
+  draw-again-reads.Learnt,
   same-drawn-reads.Asked,
   same-drawn-reads.Learnt,
   type-of-reads.Asked,
@@ -53,7 +56,7 @@ gs t = (
 )
 
 -- where the function starts, from where both draws are made and from where the winner is known
-abbrev begin : (t : ℕ) → meet-lts.After-draw-at2 (gs t) (meet-at t) meet.Post → meet-lts.Start (gs t) (meet-at t) meet.Post
+abbrev begin : (t : ℕ) → meet-lts.After-draw-again (gs t) (meet-at t) meet.Post → meet-lts.Start (gs t) (meet-at t) meet.Post
 begin t c = c .before .before
 
 abbrev both : (t : ℕ) → meet-lts.After-d (gs t) (meet-at t) meet.Post → meet-lts.Else1 (gs t) (meet-at t) meet.Post
@@ -67,14 +70,14 @@ abbrev drawn : (t : ℕ) → meet-lts.Start (gs t) (meet-at t) meet.Post → Lis
 drawn t s vs = let a = s .args in drawAt (viewIn (a .plan .now) vs) (a .x) (a .r) (a .b)
 
 -- the two draws made are the definition's
-drew : (t : ℕ) (c : meet-lts.After-draw-at2 (gs t) (meet-at t) meet.Post) → drawn t (begin t c) (begin t c .args .old .now) ≡ c .before .draw-at .result
+drew : (t : ℕ) (c : meet-lts.After-draw-again (gs t) (meet-at t) meet.Post) → drawn t (begin t c) (begin t c .args .old .now) ≡ c .before .draw-at .result
 drew t c = sym (c .before .draw-at .ensures)
 
-drew2 : (t : ℕ) (c : meet-lts.After-draw-at2 (gs t) (meet-at t) meet.Post) → drawn t (begin t c) (begin t c .args .new .now) ≡ c .draw-at2 .result
-drew2 t c = sym (c .draw-at2 .ensures)
+drew2 : (t : ℕ) (c : meet-lts.After-draw-again (gs t) (meet-at t) meet.Post) → drawn t (begin t c) (begin t c .args .new .now) ≡ c .draw-again .result
+drew2 t c = sym (c .draw-again .ensures)
 
 -- past the test they are the same
-same : (t : ℕ) (c : meet-lts.Else1 (gs t) (meet-at t) meet.Post) → c .before .before .before .draw-at .result ≡ c .before .before .draw-at2 .result
+same : (t : ℕ) (c : meet-lts.Else1 (gs t) (meet-at t) meet.Post) → c .before .before .before .draw-at .result ≡ c .before .before .draw-again .result
 same t c =
     let e = c .before in
     drawn-eq _ _ (sym (e .same-drawn .ensures) ∙ not-false (e .same-drawn .result) (c .if1 .left))
@@ -94,8 +97,8 @@ ranged t c = let s = start t c in winner-range (s .pre .1 .0) _ _ _ _ _ (won t c
 meet-draw-at-requires : (t : ℕ) → meet-lts.Need-draw-at-requires (gs t) (meet-at t) meet.Post
 meet-draw-at-requires t c κs = search needs
 
-meet-draw-at-requires-2 : (t : ℕ) → meet-lts.Need-draw-at-requires-2 (gs t) (meet-at t) meet.Post
-meet-draw-at-requires-2 t c κs = search needs
+meet-draw-again-requires : (t : ℕ) → meet-lts.Need-draw-again-requires (gs t) (meet-at t) meet.Post
+meet-draw-again-requires t c κs = search needs
 
 meet-same-drawn-requires : (t : ℕ) → meet-lts.Need-same-drawn-requires (gs t) (meet-at t) meet.Post
 meet-same-drawn-requires t c κs = search needs
@@ -179,7 +182,7 @@ pub +meet-spec : {M : Type 1} → statement M
     (meet-at t)
     meet.Post
     (meet-draw-at-requires t)
-    (meet-draw-at-requires-2 t)
+    (meet-draw-again-requires t)
     (meet-same-drawn-requires t)
     (meet-returns t)
     (meet-enum-known-d t)
