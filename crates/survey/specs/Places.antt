@@ -24,7 +24,7 @@ use Rattle.survey.specs.declared.looks.Glance.{Glance}
 use Rattle.survey.specs.declared.looks.Glance.the-variants.{Stale, Moves}
 use Rattle.survey.specs.declared.looks.Reach.{Reach}
 use Rattle.survey.specs.declared.looks.Reach.the-variants.{Anywhere, Before, After}
-use Rattle.survey.specs.Rows.{differTo, differ-moves, same-rows, same-is}
+use Rattle.survey.specs.Rows.{differTo, differ-same, differ-moves, same-rows, same-is}
 
 -- the list of group x, by the rule over a plan and values
 abbrev pub listAt : List ℕ → List ℕ → Rule → ℕ → List Place
@@ -117,10 +117,10 @@ looked-moves ps qs w x k row new r l q t l′ e′ c h =
     (i, c ∙ ap₂ (λ (y z : List ℕ). differTo y z (length row)) i e′ ∙ ap (differTo (entriesOf ps) (entriesOf qs)) l ∙ differ-moves x ps qs w (omega arith) (omega arith), h)
 
 -- a row beside the old places, of which none moves
-looked-unmoved : (ps qs : List Place) (w x : ℕ) (row : List ℕ) (r : Bool) → Stood ps w row r → (row ≡ entriesOf ps → rowMovesTo x ps qs w ≡ [])
+looked-unmoved : (ps qs : List Place) (w x : ℕ) (row : List ℕ) (r : Bool) → Stood ps w row r → (row ≡ entriesOf ps → 0 ≡ length (rowMovesTo x ps qs w))
     → Looked ps qs w x row (cond r (Moves 0) Stale)
 looked-unmoved ps qs w x row true q none =
-    let i : row ≡ entriesOf ps = same-is row (entriesOf ps) (sym (q .0)) in (i, ap length (sym (none i)), omega arith)
+    let i : row ≡ entriesOf ps = same-is row (entriesOf ps) (sym (q .0)) in (i, none i, omega arith)
 looked-unmoved ps qs w x row false q none = (sym (q .0), q .1)
 
 -- the device is not held, by a number for it
@@ -132,7 +132,7 @@ not-held false k e z = refl
 pub looked-before : (ps qs : List Place) (w x d : ℕ) (row : List ℕ) (k : ℕ) (r : Bool) (o : Glance) → Stood ps w row r → k ≡ cond (has d row) 1 0 → k ≡ 0
     → (has d (entriesOf ps) ≡ false → rowMovesTo x ps qs w ≡ []) → o ≡ cond r (Moves 0) Stale → Looked ps qs w x row o
 looked-before ps qs w x d row k r o q h z within e =
-    rw e (looked-unmoved ps qs w x row r q (λ i. within (ap (has d) (sym i) ∙ not-held (has d row) k h z)))
+    rw e (looked-unmoved ps qs w x row r q (λ i. ap length (sym (within (ap (has d) (sym i) ∙ not-held (has d row) k h z)))))
 
 -- new places that do not have it
 pub looked-after : (ps qs : List Place) (w x d : ℕ) (row new : List ℕ) (k : ℕ) (r : Bool) (o : Glance) → length (entriesOf ps) ≡ w → length new ≡ w → new ≡ entriesOf qs
@@ -140,4 +140,14 @@ pub looked-after : (ps qs : List Place) (w x d : ℕ) (row new : List ℕ) (k : 
 looked-after ps qs w x d row new k r o l l′ e′ h z within s e =
     let none : rowMovesTo x ps qs w ≡ [] = within (ap (has d) (sym e′) ∙ not-held (has d new) k h z) in
     let i : new ≡ entriesOf ps = e′ ∙ sym (same-rows x w ps qs l (ap length (sym e′) ∙ l′) none) in
-    rw e (looked-unmoved ps qs w x row r (s ∙ ap (same row) i, l) (λ _. none))
+    rw e (looked-unmoved ps qs w x row r (s ∙ ap (same row) i, l) (λ _. ap length (sym none)))
+
+-- places that are the same in both runs
+pub looked-one : (ps qs : List Place) (w x : ℕ) (row both : List ℕ) (r : Bool) (o : Glance) → length both ≡ w → both ≡ entriesOf ps → both ≡ entriesOf qs
+    → r ≡ same row both → o ≡ cond r (Moves 0) Stale → Looked ps qs w x row o
+looked-one ps qs w x row both r o l e e′ s q =
+    let a : length ps ≡ w = sym (length-entries ps) ∙ ap length (sym e) ∙ l in
+    let b : length qs ≡ w = sym (length-entries qs) ∙ ap length (sym e′) ∙ l in
+    let none : 0 ≡ length (rowMovesTo x ps qs w) =
+    differ-same both w ∙ ap₂ (λ (y z : List ℕ). differTo y z w) e e′ ∙ differ-moves x ps qs w (omega arith) (omega arith) in
+    rw q (looked-unmoved ps qs w x row r (s ∙ ap (same row) e, ap length (sym e) ∙ l) (λ _. none))

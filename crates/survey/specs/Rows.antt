@@ -57,6 +57,12 @@ differ-moves g ps qs (suc k) h l =
 
 -- ---- a row with no moves
 
+-- a row does not differ from itself
+pub differ-same : (row : List ℕ) (k : ℕ) → 0 ≡ differTo row row k
+unfolding differTo
+differ-same row zero = refl
+differ-same row (suc k) = rw (eq-eqb (getD row k 0) (getD row k 0) refl, ← differ-same row k) refl
+
 -- no place differs
 same-places : (old new : List ℕ) (k : ℕ) → differTo old new k ≡ 0 → (i : ℕ) → i < k → getD old i 0 ≡ getD new i 0
 unfolding differTo

@@ -1,11 +1,12 @@
 // One group in both runs, or in one where no place of it moves, beside its row of the table.
 ghost use mathlib.Core.Path.{_≡_};
-ghost use mathlib.Core.Bool.{cond};
+ghost use mathlib.Core.Bool.{true, cond};
 ghost use mathlib.Core.List.{List};
 ghost use lib.ListN.{length, take};
 ghost use Rattle.definitions.specs.Select.{Place, entriesOf};
 ghost use Rattle.survey.specs.Places.{placesAt, Runs, Stood, Looked, LookedAt, Within};
 use crate::rows;
+use causes::joint;
 use hierarchy::Plan;
 use hierarchy::Rule;
 use hierarchy::Values;
@@ -80,8 +81,8 @@ fn unmoved(fresh: bool) -> Glance
     Glance::Stale
 }
 
-// Places group x by both runs.
-fn look_anywhere<'a, 'b>(
+// Places group x by both runs, one after the other.
+fn look_apart<'a, 'b>(
     plan: &'a Plan,
     old: &'a Values,
     new: &'a Values,
@@ -95,6 +96,50 @@ fn look_anywhere<'a, 'b>(
 {
     let after = row_of(plan, new, rule, x, w);
     beside(plan, old, rule, x, w, row, &after[..w])
+}
+
+// Both runs of a group made at once: if no walk parts, the places of both are at the front of the array.
+struct Single {
+    one: bool,
+    row: [u16; 32],
+}
+
+fn together<'a>(
+    plan: &'a Plan,
+    old: &'a Values,
+    new: &'a Values,
+    rule: Rule,
+    x: u32,
+    w: usize,
+) -> Single
+    requires { ⌜ Runs (now plan) (now old) rule w ⌝ }
+    ensures { λ r. ⌜ (r .one ≡ true → (take w (r .row) ≡ entriesOf (placesAt (now (plan .entry)) (now (old .entry)) rule w x))
+        × (take w (r .row) ≡ entriesOf (placesAt (now (plan .entry)) (now (new .entry)) rule w x))) ⌝ }
+{
+    let mut row: [u16; 32] = [0; 32];
+    let one = joint::place_both(plan, old, new, rule, x, &mut row[..w]);
+    Single { one: one, row: row }
+}
+
+// Places group x by both runs at once, and one after the other where their walks part.
+fn look_anywhere<'a, 'b>(
+    plan: &'a Plan,
+    old: &'a Values,
+    new: &'a Values,
+    rule: Rule,
+    x: u32,
+    w: usize,
+    row: &'b [u16],
+) -> Glance
+    requires { ⌜ Runs (now plan) (now old) rule w × Runs (now plan) (now new) rule w × (length (now row) ≡ w) ⌝ }
+    ensures { λ o. ⌜ LookedAt (now (plan .entry)) (now (old .entry)) (now (new .entry)) rule w x (now (row .entry)) o ⌝ }
+{
+    let both = together(plan, old, new, rule, x, w);
+    if both.one {
+        let places = both.row;
+        return unmoved(rows::same_row(row, &places[..w]));
+    }
+    look_apart(plan, old, new, rule, x, w, row)
 }
 
 // Where places move only if the old row holds device d: a row without it is placed by the old run alone.
@@ -113,7 +158,7 @@ fn look_before<'a, 'b>(
     ensures { λ o. ⌜ LookedAt (now (plan .entry)) (now (old .entry)) (now (new .entry)) rule w x (now (row .entry)) o ⌝ }
 {
     if rows::holds(row, d) != 0 {
-        return look_anywhere(plan, old, new, rule, x, w, row);
+        return look_apart(plan, old, new, rule, x, w, row);
     }
     unmoved(stands(plan, old, rule, x, w, row))
 }

@@ -7,8 +7,8 @@ use Rattle.survey.proofs.looks.look_before.Tie as tie
 holds-requires : tie.Need-holds-requires
 holds-requires c κs = search needs
 
-look-anywhere-requires : tie.Need-look-anywhere-requires
-look-anywhere-requires c κs = search needs
+look-apart-requires : tie.Need-look-apart-requires
+look-apart-requires c κs = search needs
 
 returns : tie.Need-returns
 returns c = search needs
@@ -31,7 +31,7 @@ look-before-spec =
     tie.close
     (tie.spec
     holds-requires
-    look-anywhere-requires
+    look-apart-requires
     returns
     stands-requires
     unmoved-requires
