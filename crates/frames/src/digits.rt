@@ -5,22 +5,11 @@ ghost use lib.ListN.{length, drop};
 ghost use Rattle.definitions.specs.Lists.{every};
 ghost use Rattle.definitions.specs.Frames.{isDigit, digitValue, digitByte, value, hex};
 
+// The tests are joined by `&` and `|`, which do not branch, so that a loop over bytes takes many at a time.
 pub fn is_digit(b: u8) -> bool
     ensures { λ r. ⌜ r ≡ isDigit b ⌝ }
 {
-    if b < 48 {
-        return false;
-    }
-    if b <= 57 {
-        return true;
-    }
-    if b < 97 {
-        return false;
-    }
-    if b <= 102 {
-        return true;
-    }
-    false
+    ((48 <= b) & (b <= 57)) | ((97 <= b) & (b <= 102))
 }
 
 pub fn all_digits(t: &[u8]) -> bool

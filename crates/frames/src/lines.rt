@@ -27,23 +27,20 @@ pub const LENGTHS: [usize; 6] = [GROUPS, DEVICE, BUCKET, LINK, STEP, END];
 pub fn is_allowed(b: u8) -> bool
     ensures { λ r. ⌜ r ≡ allowed b ⌝ }
 {
-    if b == 10 {
-        return true;
-    }
-    digits::is_digit(b)
+    digits::is_digit(b) | (b == 10)
 }
 
+// Every byte is tested, also behind one that is not allowed: a loop with one way out takes many bytes at a time.
 pub fn all_allowed(t: &[u8]) -> bool
     ensures { λ r. ⌜ r ≡ every allowed (now (t .entry)) ⌝ }
 {
+    let mut all = true;
     let mut i: usize = 0;
     while i < t.len() {
-        if !is_allowed(t[i]) {
-            return false;
-        }
+        all = all & is_allowed(t[i]);
         i += 1;
     }
-    true
+    all
 }
 
 // Question 1: "1 to 65,536 bytes, last byte 10, all others digits or 10?"

@@ -1,6 +1,6 @@
 -- The layer of bytes and lines: a text that ends with the byte 10 is its lines. Assumes nothing.
 use mathlib.Core.Path.{_≡_, refl, ap, _∙_}
-use mathlib.Core.Bool.{Bool, true, false, cond, _&&_, _||_, or-false, or-true}
+use mathlib.Core.Bool.{Bool, true, false, cond, _&&_, _||_}
 use mathlib.Core.Logic.{⊎-elim}
 use mathlib.Core.List.{List, [], _∷_, _++_}
 use Prim.Native.Nat.{ℕ, zero, suc, _+_, _-_, _<_, _≤_}
@@ -117,14 +117,6 @@ line-at t at e h l n =
     let k : at + suc (e - at) ≡ e + 1 = omega arith in
     lines-split (drop at t) (rw (length-drop at t) (omega arith))
     ∙ rw (n, drop-drop (suc (e - at)) at t, k) (ap (λ (f : List ℕ). f ∷ linesOf (drop (e + 1) t)) (first-take (drop at t) ∙ rw n refl))
-
--- question 1 of the byte 10
-pub allowed-ten : (b : ℕ) → b ≡ 10 → allowed b ≡ true
-allowed-ten b e = rw (eq-eqb b 10 e) (or-true (isDigit b))
-
--- and of any other byte
-pub allowed-digit : (b : ℕ) → (b ≡ 10 → ⊥) → allowed b ≡ isDigit b
-allowed-digit b n = rw (ne-eqb b 10 n) (or-false (isDigit b))
 
 -- a byte that is not 10 is not the last
 pub not-last : (t : List ℕ) (e : ℕ) → e < length t → (getD t e 0 ≡ 10 → ⊥) → lastOf t ≡ 10 → e + 1 < length t

@@ -1,23 +1,12 @@
--- `frames::digits::is_digit` meets its contract: each return is one of the five ranges of a byte. Assumes nothing.
-use mathlib.Core.Path.{sym}
-use Rattle.text.specs.Digits.{low, decimal, between, letter, above}
+-- `frames::digits::is_digit` meets its contract. The code's tests are the definition's. Assumes nothing.
+use mathlib.Core.Path.{refl}
+use Rattle.definitions.specs.Frames.{isDigit}
 use Rattle.frames.proofs.digits.is_digit.Statement.{statement}
 use Rattle.frames.proofs.digits.is_digit.Tie as tie
 
 returns : tie.Need-returns
-returns c = sym (low _ (c .if1 .taken) .0)
-
-returns-2 : tie.Need-returns-2
-returns-2 c = sym (decimal _ (c .before .if1 .left) (c .if2 .taken) .0)
-
-returns-3 : tie.Need-returns-3
-returns-3 c = sym (between _ (c .before .if2 .left) (c .if3 .taken) .0)
-
-returns-4 : tie.Need-returns-4
-returns-4 c = sym (letter _ (c .before .if3 .left) (c .if4 .taken) .0)
-
-returns-5 : tie.Need-returns-5
-returns-5 c = sym (above _ (c .if4 .left) .0)
+unfolding isDigit
+returns c = refl
 
 pub is-digit-spec : {M : Type 1} → statement M
-is-digit-spec = tie.close (tie.spec returns returns-2 returns-3 returns-4 returns-5)
+is-digit-spec = tie.close (tie.spec returns)
