@@ -4,4 +4,5 @@ pub mod edit_frame;
 pub mod lines;
 pub mod records;
 pub mod shape;
+pub mod words;
 pub mod writing;

@@ -10,6 +10,7 @@ ghost use Rattle.text.specs.RoundTrip.{Framed};
 ghost use Rattle.text.specs.Records.{noDevice, noBucket, noLink, noStep};
 use crate::digits;
 use crate::lines;
+use crate::words;
 use definitions::Bucket;
 use definitions::Device;
 use definitions::Link;
@@ -29,7 +30,7 @@ pub fn groups(t: &[u8]) -> u32
     requires { ⌜ Framed (now t) ⌝ }
     ensures { λ r. ⌜ r ≡ mapOf (now (t .entry)) .groups ⌝ }
 {
-    digits::field(t, 2, 8)
+    words::read_eight(t, 2)
 }
 
 // Device k.
@@ -39,9 +40,9 @@ pub fn device(t: &[u8], k: usize) -> Device
 {
     let at = lines::GROUPS + k * lines::DEVICE;
     Device {
-        number: digits::field(t, at + 2, 4),
-        weight: digits::field(t, at + WEIGHT_AT, 8),
-        acceptance: digits::field(t, at + ACCEPTANCE_AT, 8),
+        number: words::read_four(t, at + 2),
+        weight: words::read_eight(t, at + WEIGHT_AT),
+        acceptance: words::read_eight(t, at + ACCEPTANCE_AT),
     }
 }
 
@@ -52,10 +53,10 @@ pub fn bucket(t: &[u8], s: Shape, k: usize) -> Bucket
 {
     let at = lines::GROUPS + s.devices * lines::DEVICE + k * lines::BUCKET;
     Bucket {
-        number: digits::field(t, at + 2, 4),
+        number: words::read_four(t, at + 2),
         ty: digits::field(t, at + 6, 2),
         kind: digits::field(t, at + 8, 2),
-        weight: digits::field(t, at + SUM_AT, 8),
+        weight: words::read_eight(t, at + SUM_AT),
     }
 }
 
@@ -65,7 +66,7 @@ pub fn bucket_number(t: &[u8], s: Shape, k: usize) -> u32
     ensures { λ r. ⌜ r ≡ getD (mapOf (now (t .entry)) .buckets) k noBucket .number ⌝ }
 {
     let at = lines::GROUPS + s.devices * lines::DEVICE + k * lines::BUCKET;
-    digits::field(t, at + 2, 4)
+    words::read_four(t, at + 2)
 }
 
 // Link k.
@@ -78,8 +79,8 @@ pub fn link(t: &[u8], s: Shape, k: usize) -> Link
         + s.buckets * lines::BUCKET
         + k * lines::LINK;
     Link {
-        bucket: digits::field(t, at + 2, 4),
-        child: digits::field(t, at + 6, 8),
+        bucket: words::read_four(t, at + 2),
+        child: words::read_eight(t, at + 6),
     }
 }
 
@@ -97,6 +98,6 @@ pub fn step(t: &[u8], s: Shape, k: usize) -> Step
         step: digits::field(t, at + 2, 2),
         count: digits::field(t, at + 4, 2),
         ty: digits::field(t, at + 6, 2),
-        bucket: digits::field(t, at + 8, 4),
+        bucket: words::read_four(t, at + 8),
     }
 }

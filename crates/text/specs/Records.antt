@@ -1,7 +1,8 @@
--- The places of the map's records in a text that questions 1 to 4 take: the fields of row k at its offset, and room for its line.
+-- The places of the map's records in a text that questions 1 to 4 take: the fields of row k at its offset, and room for its line, which is of digits.
 use mathlib.Core.Path.{_≡_, refl, sym, subst}
+use mathlib.Core.Bool.{true}
 use mathlib.Core.List.{List, map}
-use Prim.Native.Nat.{ℕ, _+_, _*_, _<_, _≤_}
+use Prim.Native.Nat.{ℕ, _+_, _-_, _*_, _<_, _≤_}
 use native.Mathlib.Omega.{arith}
 use lib.Dec.{lit<}
 use lib.ListN.{length, getD, drop, length-map, List·getD-map}
@@ -11,13 +12,13 @@ use Rattle.definitions.specs.declared.Link.{Link}
 use Rattle.definitions.specs.declared.Step.{Step}
 use Rattle.text.specs.declared.Shape.{Shape}
 use Rattle.definitions.specs.Lists.{sum}
-use Rattle.definitions.specs.Frames.{value, Frame, layouts, layout, lineLength, framesIn, section, field, noFrame}
+use Rattle.definitions.specs.Frames.{isDigit, value, Frame, layouts, layout, lineLength, framesIn, section, field, noFrame}
 use Rattle.definitions.specs.Map.{Map, deviceIn, bucketIn, linkIn, stepIn, mapIn, mapOf}
 use Rattle.text.specs.Frames.{good-frames, lineBytes}
 use Rattle.text.specs.Shape.{shapeOf}
 use Rattle.text.specs.Places.{offset, digitsOf}
 use Rattle.text.specs.Map.{Ordered, in-order}
-use Rattle.text.specs.Rows.{base, row, row-field, row-room, deviceStart, weightAt, acceptanceAt, sumAt, bucketsStart, linksStart, stepsStart, base-devices, base-buckets, base-links, base-steps}
+use Rattle.text.specs.Rows.{base, row, row-field, row-room, row-digits, deviceStart, weightAt, acceptanceAt, sumAt, bucketsStart, linksStart, stepsStart, base-devices, base-buckets, base-links, base-steps}
 use Rattle.text.specs.RoundTrip.{Framed, text-of-frames}
 
 -- no device
@@ -36,10 +37,15 @@ noLink = record { bucket = 0; child = 0 }
 abbrev pub noStep : Step
 noStep = record { step = 0; count = 0; ty = 0; bucket = 0 }
 
+-- the n bytes from p on are digits
+abbrev pub DigitsAt : List ℕ → ℕ → ℕ → Type 0
+DigitsAt t p n = (i : ℕ) → i < n → isDigit (getD t (p + i) 0) ≡ true
+
 -- the line of a frame f of kind j starts at p
 pub record FrameAt (t : List ℕ) (j p : ℕ) (f : Frame) : Type 0 where
   pub read : (i : ℕ) → i < length (layout j) → value (digitsOf j i) (drop (p + offset j i) t) ≡ field i f
   pub room : p + (lineLength j + 1) ≤ length t
+  pub digits : DigitsAt t p (lineLength j)
 
 -- the line of device d starts at p
 pub record DeviceAt (t : List ℕ) (p : ℕ) (d : Device) : Type 0 where
@@ -47,6 +53,7 @@ pub record DeviceAt (t : List ℕ) (p : ℕ) (d : Device) : Type 0 where
   pub weight : value 8 (drop (p + weightAt) t) ≡ d .weight
   pub acceptance : value 8 (drop (p + acceptanceAt) t) ≡ d .acceptance
   pub room : p + lineBytes 1 ≤ length t
+  pub digits : DigitsAt t p (lineBytes 1 - 1)
 
 -- the line of bucket b starts at p
 pub record BucketAt (t : List ℕ) (p : ℕ) (b : Bucket) : Type 0 where
@@ -55,12 +62,14 @@ pub record BucketAt (t : List ℕ) (p : ℕ) (b : Bucket) : Type 0 where
   pub kind : value 2 (drop (p + 8) t) ≡ b .kind
   pub weight : value 8 (drop (p + sumAt) t) ≡ b .weight
   pub room : p + lineBytes 2 ≤ length t
+  pub digits : DigitsAt t p (lineBytes 2 - 1)
 
 -- the line of link l starts at p
 pub record LinkAt (t : List ℕ) (p : ℕ) (l : Link) : Type 0 where
   pub bucket : value 4 (drop (p + 2) t) ≡ l .bucket
   pub child : value 8 (drop (p + 6) t) ≡ l .child
   pub room : p + lineBytes 3 ≤ length t
+  pub digits : DigitsAt t p (lineBytes 3 - 1)
 
 -- the line of step s starts at p
 pub record StepAt (t : List ℕ) (p : ℕ) (s : Step) : Type 0 where
@@ -69,6 +78,7 @@ pub record StepAt (t : List ℕ) (p : ℕ) (s : Step) : Type 0 where
   pub ty : value 2 (drop (p + 6) t) ≡ s .ty
   pub bucket : value 4 (drop (p + 8) t) ≡ s .bucket
   pub room : p + lineBytes 4 ≤ length t
+  pub digits : DigitsAt t p (lineBytes 4 - 1)
 
 module _ (t : List ℕ) (h : Framed t) where
   -- its frames are in order
@@ -82,7 +92,7 @@ module _ (t : List ℕ) (h : Framed t) where
       let fs = framesIn t in
       let r = row fs j k (good-frames t (h .formed)) (in-order-of .sorted) n l in
       subst (λ (u : List ℕ). FrameAt u j (b + k * (lineLength j + 1)) (getD (section j fs) k noFrame)) (text-of-frames t h)
-      (rw (← e) (record { read = row-field fs j k r; room = row-room fs j k r }))
+      (rw (← e) (record { read = row-field fs j k r; room = row-room fs j k r; digits = row-digits fs j k r }))
 
   -- the same of the list that the map makes of section j
   pub record-at : {A : Type 0} (j b k : ℕ) (g : Frame → A) (P : A → Type 0) → j < 6 → base j (framesIn t) ≡ b
@@ -93,18 +103,18 @@ module _ (t : List ℕ) (h : Framed t) where
       rw (List·getD-map g s k noFrame) (q (getD s k noFrame) (frame-at j b k n e (omega (arith, l, length-map s g))))
 
   -- the count of groups
-  pub groups-at : (value 8 (drop 2 t) ≡ mapOf t .groups) × (lineBytes 0 ≤ length t)
+  pub groups-at : (value 8 (drop 2 t) ≡ mapOf t .groups) × (lineBytes 0 ≤ length t) × DigitsAt t 0 (lineBytes 0 - 1)
   unfolding mapIn layouts sum base
   groups-at =
       let r = frame-at 0 0 0 (lit< tt) refl (omega (arith, in-order-of .one-first)) in
-      (r .read 0 (lit< tt), r .room)
+      (r .read 0 (lit< tt), r .room, r .digits)
 
   -- device k
   pub device-at : (k : ℕ) → k < length (mapOf t .devices) → DeviceAt t (deviceStart k) (getD (mapOf t .devices) k noDevice)
   unfolding mapIn layouts sum
   device-at k l =
       record-at 1 (lineBytes 0) k deviceIn (DeviceAt t (deviceStart k)) (lit< tt) (base-devices (framesIn t) in-order-of) l
-      (λ f r. record { number = r .read 0 (lit< tt); weight = r .read 1 (lit< tt); acceptance = r .read 2 (lit< tt); room = r .room })
+      (λ f r. record { number = r .read 0 (lit< tt); weight = r .read 1 (lit< tt); acceptance = r .read 2 (lit< tt); room = r .room; digits = r .digits })
 
   module _ (s : Shape) (e : s ≡ shapeOf (framesIn t)) where
     -- bucket k
@@ -113,7 +123,7 @@ module _ (t : List ℕ) (h : Framed t) where
     unfolding mapIn layouts sum
     bucket-at k l =
         record-at 2 (bucketsStart s) k bucketIn (BucketAt t (bucketsStart s + k * lineBytes 2)) (lit< tt) (base-buckets (framesIn t) s e in-order-of) l
-        (λ f r. record { number = r .read 0 (lit< tt); ty = r .read 1 (lit< tt); kind = r .read 2 (lit< tt); weight = r .read 3 (lit< tt); room = r .room })
+        (λ f r. record { number = r .read 0 (lit< tt); ty = r .read 1 (lit< tt); kind = r .read 2 (lit< tt); weight = r .read 3 (lit< tt); room = r .room; digits = r .digits })
 
     -- link k
     pub link-at : (k : ℕ) → k < length (mapOf t .links)
@@ -121,7 +131,7 @@ module _ (t : List ℕ) (h : Framed t) where
     unfolding mapIn layouts sum
     link-at k l =
         record-at 3 (linksStart s) k linkIn (LinkAt t (linksStart s + k * lineBytes 3)) (lit< tt) (base-links (framesIn t) s e in-order-of) l
-        (λ f r. record { bucket = r .read 0 (lit< tt); child = r .read 1 (lit< tt); room = r .room })
+        (λ f r. record { bucket = r .read 0 (lit< tt); child = r .read 1 (lit< tt); room = r .room; digits = r .digits })
 
     -- step k
     pub step-at : (k : ℕ) → k < length (mapOf t .steps)
@@ -129,7 +139,7 @@ module _ (t : List ℕ) (h : Framed t) where
     unfolding mapIn layouts sum
     step-at k l =
         record-at 4 (stepsStart s) k stepIn (StepAt t (stepsStart s + k * lineBytes 4)) (lit< tt) (base-steps (framesIn t) s e in-order-of) l
-        (λ f r. record { step = r .read 0 (lit< tt); count = r .read 1 (lit< tt); ty = r .read 2 (lit< tt); bucket = r .read 3 (lit< tt); room = r .room })
+        (λ f r. record { step = r .read 0 (lit< tt); count = r .read 1 (lit< tt); ty = r .read 2 (lit< tt); bucket = r .read 3 (lit< tt); room = r .room; digits = r .digits })
 
 -- the shape's counts are the lengths of the map's lists
 module _ (t : List ℕ) (s : Shape) (e : s ≡ shapeOf (framesIn t)) where

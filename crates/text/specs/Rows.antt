@@ -5,15 +5,15 @@ use mathlib.Core.List.{List, _∷_, _++_, append-assoc, append-nil}
 use Prim.Native.Nat.{ℕ, zero, suc, _+_, _-_, _*_, _<_, _≤_}
 use native.Mathlib.Omega.{arith}
 use native.Mathlib.Nat.{add-zero, zero-add, add-suc, suc-add}
-use lib.ListN.{length, getD, take, drop, length-append}
-use lib.Seq.{length-take-le, split-at}
+use lib.ListN.{length, getD, take, drop, length-append, List·getD-append}
+use lib.Seq.{length-take-le, split-at, getD-append-add}
 use borrow.Author.Tests.{eqb-true, lt-ltb}
 use Rattle.text.specs.declared.Shape.{Shape}
 use Rattle.definitions.specs.Lists.{every, sum}
-use Rattle.definitions.specs.Frames.{value, bytesOf, Frame, layouts, layout, lineLength, lineOf, textOf, section, field, noFrame}
+use Rattle.definitions.specs.Frames.{isDigit, value, bytesOf, Frame, layouts, layout, lineLength, lineOf, textOf, section, field, noFrame}
 use Rattle.definitions.specs.Load.{sorted}
 use Rattle.laws.specs.Lists.{every-take, every-at, every-mono}
-use Rattle.text.specs.Frames.{goodFrame, good-kind, length-line, lineBytes}
+use Rattle.text.specs.Frames.{goodFrame, good-kind, length-line, line-digits, lineBytes}
 use Rattle.text.specs.Shape.{shapeOf, is}
 use Rattle.text.specs.Sections.{sections, below, by-sections}
 use Rattle.text.specs.Places.{offset, digitsOf, text-append, read-at, ofKind, length-text}
@@ -99,6 +99,20 @@ module _ (fs : List Frame) (j k : ℕ) (r : Row fs j k) where
       ap (λ (x : List Frame). length (textOf x)) (r .is) ∙ ap length (text-append (r .before) (f ∷ r .after))
       ∙ length-append (textOf (r .before)) (textOf (f ∷ r .after)) in
       omega (arith, a, b, c, r .starts)
+
+  -- and is of digits
+  pub row-digits : (i : ℕ) → i < lineLength j → isDigit (getD (textOf fs) (base j fs + k * (lineLength j + 1) + i) 0) ≡ true
+  unfolding bytesOf
+  row-digits i h =
+      let f = getD (section j fs) k noFrame in
+      let p = base j fs + k * (lineLength j + 1) in
+      let xs = textOf (r .before) in
+      let l : i < length (lineOf f) = rw (length-line f (r .good), r .kind) h in
+      let e : getD (textOf fs) (p + i) 0 ≡ getD (lineOf f) i 0 =
+      ap (λ (x : List Frame). getD (textOf x) (p + i) 0) (r .is) ∙ ap (λ (x : List ℕ). getD x (p + i) 0) (text-append (r .before) (f ∷ r .after))
+      ∙ ap (λ (x : ℕ). getD (xs ++ textOf (f ∷ r .after)) (x + i) 0) (sym (r .starts)) ∙ getD-append-add xs (textOf (f ∷ r .after)) i 0
+      ∙ List·getD-append (lineOf f) (10 ∷ textOf (r .after)) 0 i l in
+      rw e (every-at isDigit (lineOf f) i 0 (line-digits f) l)
 
 -- where device k starts
 abbrev pub deviceStart : ℕ → ℕ

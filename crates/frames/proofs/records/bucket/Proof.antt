@@ -6,8 +6,9 @@ use lib.ListN.{getD}
 use Rattle.definitions.specs.declared.Bucket.{Bucket}
 use Rattle.definitions.specs.Map.{mapOf}
 use Rattle.text.specs.Frames.{lineBytes}
-use Rattle.text.specs.Rows.{bucketsStart}
+use Rattle.text.specs.Rows.{sumAt, bucketsStart}
 use Rattle.text.specs.Records.{noBucket, BucketAt, bucket-at}
+use Rattle.frames.specs.Words.{digits-in}
 use Rattle.frames.proofs.records.bucket.Statement.{statement}
 use Rattle.frames.proofs.records.bucket.Tie as tie
 
@@ -33,34 +34,38 @@ mul-at-2 c = let s = c .before .before in omega (arith, here s .room, s .good .0
 add-at-2 : tie.Need-add-at-2
 add-at-2 c = let s = c .before .before in omega (arith, here s .room, s .good .0)
 
+add-read-four : tie.Need-add-read-four
+add-read-four c = let s = c .before .before in omega (arith, here s .room, s .good .0)
+
+read-four-requires : tie.Need-read-four-requires
+read-four-requires c κs =
+    let s = c .before .before in
+    (omega (arith, here s .room), digits-in (s .args .t .now) (bucketsStart (s .args .s) + s .args .k * lineBytes 2) 2 4 _ (here s .digits) (omega arith))
+
 add-field : tie.Need-add-field
-add-field c = let s = c .before .before in omega (arith, here s .room, s .good .0)
+add-field c = let s = c .before .before .before in omega (arith, here s .room, s .good .0)
 
 field-requires : tie.Need-field-requires
-field-requires c κs = omega (arith, here (c .before .before) .room)
+field-requires c κs = omega (arith, here (c .before .before .before) .room)
 
 add-field-2 : tie.Need-add-field-2
-add-field-2 c = let s = c .before .before .before in omega (arith, here s .room, s .good .0)
+add-field-2 c = let s = c .before .before .before .before in omega (arith, here s .room, s .good .0)
 
 field-requires-2 : tie.Need-field-requires-2
-field-requires-2 c κs = omega (arith, here (c .before .before .before) .room)
+field-requires-2 c κs = omega (arith, here (c .before .before .before .before) .room)
 
-add-field-3 : tie.Need-add-field-3
-add-field-3 c = let s = c .before .before .before .before in omega (arith, here s .room, s .good .0)
+add-read-eight : tie.Need-add-read-eight
+add-read-eight c = let s = c .before .before .before .before .before in omega (arith, here s .room, s .good .0)
 
-field-requires-3 : tie.Need-field-requires-3
-field-requires-3 c κs = omega (arith, here (c .before .before .before .before) .room)
-
-add-field-4 : tie.Need-add-field-4
-add-field-4 c = let s = c .before .before .before .before .before in omega (arith, here s .room, s .good .0)
-
-field-requires-4 : tie.Need-field-requires-4
-field-requires-4 c κs = omega (arith, here (c .before .before .before .before .before) .room)
+read-eight-requires : tie.Need-read-eight-requires
+read-eight-requires c κs =
+    let s = c .before .before .before .before .before in
+    (omega (arith, here s .room), digits-in (s .args .t .now) (bucketsStart (s .args .s) + s .args .k * lineBytes 2) sumAt 8 _ (here s .digits) (omega arith))
 
 returns : tie.Need-returns
 returns c =
     let h = here (c .before .before .before .before .before .before) in
-    same _ _ _ _ _ (c .before .before .before .field .ensures ∙ h .number) (c .before .before .field2 .ensures ∙ h .ty) (c .before .field3 .ensures ∙ h .kind) (c .field4 .ensures ∙ h .weight)
+    same _ _ _ _ _ (c .before .before .before .read-four .ensures ∙ h .number) (c .before .before .field .ensures ∙ h .ty) (c .before .field2 .ensures ∙ h .kind) (c .read-eight .ensures ∙ h .weight)
 
 pub bucket-spec : {M : Type 1} → statement M
 bucket-spec =
@@ -70,12 +75,12 @@ bucket-spec =
     add-at
     mul-at-2
     add-at-2
+    add-read-four
+    read-four-requires
     add-field
     field-requires
     add-field-2
     field-requires-2
-    add-field-3
-    field-requires-3
-    add-field-4
-    field-requires-4
+    add-read-eight
+    read-eight-requires
     returns)

@@ -7,6 +7,7 @@ use Rattle.definitions.specs.Map.{mapOf}
 use Rattle.text.specs.Frames.{lineBytes}
 use Rattle.text.specs.Rows.{bucketsStart}
 use Rattle.text.specs.Records.{noBucket, BucketAt, bucket-at}
+use Rattle.frames.specs.Words.{digits-in}
 use Rattle.frames.proofs.records.bucket_number.Statement.{statement}
 use Rattle.frames.proofs.records.bucket_number.Tie as tie
 
@@ -27,14 +28,16 @@ mul-at-2 c = let s = c .before .before in omega (arith, here s .room, s .good .0
 add-at-2 : tie.Need-add-at-2
 add-at-2 c = let s = c .before .before in omega (arith, here s .room, s .good .0)
 
-add-field : tie.Need-add-field
-add-field c = let s = c .before .before in omega (arith, here s .room, s .good .0)
+add-read-four : tie.Need-add-read-four
+add-read-four c = let s = c .before .before in omega (arith, here s .room, s .good .0)
 
-field-requires : tie.Need-field-requires
-field-requires c κs = omega (arith, here (c .before .before) .room)
+read-four-requires : tie.Need-read-four-requires
+read-four-requires c κs =
+    let s = c .before .before in
+    (omega (arith, here s .room), digits-in (s .args .t .now) (bucketsStart (s .args .s) + s .args .k * lineBytes 2) 2 4 _ (here s .digits) (omega arith))
 
 returns : tie.Need-returns
-returns c = c .field .ensures ∙ here (c .before .before .before) .number
+returns c = c .read-four .ensures ∙ here (c .before .before .before) .number
 
 pub bucket-number-spec : {M : Type 1} → statement M
 bucket-number-spec =
@@ -44,6 +47,6 @@ bucket-number-spec =
     add-at
     mul-at-2
     add-at-2
-    add-field
-    field-requires
+    add-read-four
+    read-four-requires
     returns)

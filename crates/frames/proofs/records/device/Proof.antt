@@ -5,8 +5,9 @@ use native.Mathlib.Omega.{arith}
 use lib.ListN.{getD}
 use Rattle.definitions.specs.declared.Device.{Device}
 use Rattle.definitions.specs.Map.{mapOf}
-use Rattle.text.specs.Rows.{deviceStart}
+use Rattle.text.specs.Rows.{deviceStart, weightAt, acceptanceAt}
 use Rattle.text.specs.Records.{noDevice, DeviceAt, device-at}
+use Rattle.frames.specs.Words.{digits-in}
 use Rattle.frames.proofs.records.device.Statement.{statement}
 use Rattle.frames.proofs.records.device.Tie as tie
 
@@ -26,28 +27,34 @@ mul-at c = let s = c .before in omega (arith, here s .room, s .good .0)
 add-at : tie.Need-add-at
 add-at c = let s = c .before in omega (arith, here s .room, s .good .0)
 
-add-field : tie.Need-add-field
-add-field c = let s = c .before in omega (arith, here s .room, s .good .0)
+add-read-four : tie.Need-add-read-four
+add-read-four c = let s = c .before in omega (arith, here s .room, s .good .0)
 
-field-requires : tie.Need-field-requires
-field-requires c κs = omega (arith, here (c .before) .room)
+read-four-requires : tie.Need-read-four-requires
+read-four-requires c κs =
+    let s = c .before in
+    (omega (arith, here s .room), digits-in (s .args .t .now) (deviceStart (s .args .k)) 2 4 _ (here s .digits) (omega arith))
 
-add-field-2 : tie.Need-add-field-2
-add-field-2 c = let s = c .before .before in omega (arith, here s .room, s .good .0)
+add-read-eight : tie.Need-add-read-eight
+add-read-eight c = let s = c .before .before in omega (arith, here s .room, s .good .0)
 
-field-requires-2 : tie.Need-field-requires-2
-field-requires-2 c κs = omega (arith, here (c .before .before) .room)
+read-eight-requires : tie.Need-read-eight-requires
+read-eight-requires c κs =
+    let s = c .before .before in
+    (omega (arith, here s .room), digits-in (s .args .t .now) (deviceStart (s .args .k)) weightAt 8 _ (here s .digits) (omega arith))
 
-add-field-3 : tie.Need-add-field-3
-add-field-3 c = let s = c .before .before .before in omega (arith, here s .room, s .good .0)
+add-read-eight-2 : tie.Need-add-read-eight-2
+add-read-eight-2 c = let s = c .before .before .before in omega (arith, here s .room, s .good .0)
 
-field-requires-3 : tie.Need-field-requires-3
-field-requires-3 c κs = omega (arith, here (c .before .before .before) .room)
+read-eight-requires-2 : tie.Need-read-eight-requires-2
+read-eight-requires-2 c κs =
+    let s = c .before .before .before in
+    (omega (arith, here s .room), digits-in (s .args .t .now) (deviceStart (s .args .k)) acceptanceAt 8 _ (here s .digits) (omega arith))
 
 returns : tie.Need-returns
 returns c =
     let h = here (c .before .before .before .before) in
-    same _ _ _ _ (c .before .before .field .ensures ∙ h .number) (c .before .field2 .ensures ∙ h .weight) (c .field3 .ensures ∙ h .acceptance)
+    same _ _ _ _ (c .before .before .read-four .ensures ∙ h .number) (c .before .read-eight .ensures ∙ h .weight) (c .read-eight2 .ensures ∙ h .acceptance)
 
 pub device-spec : {M : Type 1} → statement M
 device-spec =
@@ -55,10 +62,10 @@ device-spec =
     (tie.spec
     mul-at
     add-at
-    add-field
-    field-requires
-    add-field-2
-    field-requires-2
-    add-field-3
-    field-requires-3
+    add-read-four
+    read-four-requires
+    add-read-eight
+    read-eight-requires
+    add-read-eight-2
+    read-eight-requires-2
     returns)

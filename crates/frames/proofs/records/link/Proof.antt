@@ -8,6 +8,7 @@ use Rattle.definitions.specs.Map.{mapOf}
 use Rattle.text.specs.Frames.{lineBytes}
 use Rattle.text.specs.Rows.{linksStart}
 use Rattle.text.specs.Records.{noLink, LinkAt, link-at}
+use Rattle.frames.specs.Words.{digits-in}
 use Rattle.frames.proofs.records.link.Statement.{statement}
 use Rattle.frames.proofs.records.link.Tie as tie
 
@@ -39,22 +40,26 @@ mul-at-3 c = let s = c .before .before .before in omega (arith, here s .room, s 
 add-at-3 : tie.Need-add-at-3
 add-at-3 c = let s = c .before .before .before in omega (arith, here s .room, s .good .0)
 
-add-field : tie.Need-add-field
-add-field c = let s = c .before .before .before in omega (arith, here s .room, s .good .0)
+add-read-four : tie.Need-add-read-four
+add-read-four c = let s = c .before .before .before in omega (arith, here s .room, s .good .0)
 
-field-requires : tie.Need-field-requires
-field-requires c κs = omega (arith, here (c .before .before .before) .room)
+read-four-requires : tie.Need-read-four-requires
+read-four-requires c κs =
+    let s = c .before .before .before in
+    (omega (arith, here s .room), digits-in (s .args .t .now) (linksStart (s .args .s) + s .args .k * lineBytes 3) 2 4 _ (here s .digits) (omega arith))
 
-add-field-2 : tie.Need-add-field-2
-add-field-2 c = let s = c .before .before .before .before in omega (arith, here s .room, s .good .0)
+add-read-eight : tie.Need-add-read-eight
+add-read-eight c = let s = c .before .before .before .before in omega (arith, here s .room, s .good .0)
 
-field-requires-2 : tie.Need-field-requires-2
-field-requires-2 c κs = omega (arith, here (c .before .before .before .before) .room)
+read-eight-requires : tie.Need-read-eight-requires
+read-eight-requires c κs =
+    let s = c .before .before .before .before in
+    (omega (arith, here s .room), digits-in (s .args .t .now) (linksStart (s .args .s) + s .args .k * lineBytes 3) 6 8 _ (here s .digits) (omega arith))
 
 returns : tie.Need-returns
 returns c =
     let h = here (c .before .before .before .before .before) in
-    same _ _ _ (c .before .field .ensures ∙ h .bucket) (c .field2 .ensures ∙ h .child)
+    same _ _ _ (c .before .read-four .ensures ∙ h .bucket) (c .read-eight .ensures ∙ h .child)
 
 pub link-spec : {M : Type 1} → statement M
 link-spec =
@@ -66,8 +71,8 @@ link-spec =
     add-at-2
     mul-at-3
     add-at-3
-    add-field
-    field-requires
-    add-field-2
-    field-requires-2
+    add-read-four
+    read-four-requires
+    add-read-eight
+    read-eight-requires
     returns)

@@ -8,6 +8,7 @@ use Rattle.definitions.specs.Map.{mapOf}
 use Rattle.text.specs.Frames.{lineBytes}
 use Rattle.text.specs.Rows.{stepsStart}
 use Rattle.text.specs.Records.{noStep, StepAt, step-at}
+use Rattle.frames.specs.Words.{digits-in}
 use Rattle.frames.proofs.records.step.Statement.{statement}
 use Rattle.frames.proofs.records.step.Tie as tie
 
@@ -63,16 +64,18 @@ add-field-3 c = let s = c .before .before .before .before .before .before in ome
 field-requires-3 : tie.Need-field-requires-3
 field-requires-3 c κs = omega (arith, here (c .before .before .before .before .before .before) .room)
 
-add-field-4 : tie.Need-add-field-4
-add-field-4 c = let s = c .before .before .before .before .before .before .before in omega (arith, here s .room, s .good .0)
+add-read-four : tie.Need-add-read-four
+add-read-four c = let s = c .before .before .before .before .before .before .before in omega (arith, here s .room, s .good .0)
 
-field-requires-4 : tie.Need-field-requires-4
-field-requires-4 c κs = omega (arith, here (c .before .before .before .before .before .before .before) .room)
+read-four-requires : tie.Need-read-four-requires
+read-four-requires c κs =
+    let s = c .before .before .before .before .before .before .before in
+    (omega (arith, here s .room), digits-in (s .args .t .now) (stepsStart (s .args .s) + s .args .k * lineBytes 4) 8 4 _ (here s .digits) (omega arith))
 
 returns : tie.Need-returns
 returns c =
     let h = here (c .before .before .before .before .before .before .before .before) in
-    same _ _ _ _ _ (c .before .before .before .field .ensures ∙ h .step) (c .before .before .field2 .ensures ∙ h .count) (c .before .field3 .ensures ∙ h .ty) (c .field4 .ensures ∙ h .bucket)
+    same _ _ _ _ _ (c .before .before .before .field .ensures ∙ h .step) (c .before .before .field2 .ensures ∙ h .count) (c .before .field3 .ensures ∙ h .ty) (c .read-four .ensures ∙ h .bucket)
 
 pub step-spec : {M : Type 1} → statement M
 step-spec =
@@ -92,6 +95,6 @@ step-spec =
     field-requires-2
     add-field-3
     field-requires-3
-    add-field-4
-    field-requires-4
+    add-read-four
+    read-four-requires
     returns)
