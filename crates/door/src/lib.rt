@@ -125,8 +125,9 @@ pub fn load(t: &[u8]) -> u32
     if !lines::formed(t) {
         return 2;
     }
-    let s = shape::shape_of(t);
-    if !shape::ordered(t, s) {
+    let o = shape::outline_of(t);
+    let s = o.shape;
+    if !shape::ordered(o) {
         return 3;
     }
     if !shape::counted(t, s) {

@@ -1,11 +1,11 @@
 // Questions 3 and 4: the order of the lines, and how many there are of each kind.
 ghost use mathlib.Core.Path.{_≡_};
 ghost use mathlib.Core.Bool.{true};
-ghost use mathlib.Core.List.{_∷_};
+ghost use mathlib.Core.List.{List, _∷_};
 ghost use Prim.Native.Nat.{_<_, _≤_, _^_};
 ghost use lib.ListN.{length, drop};
 ghost use Rattle.definitions.specs.Lists.{every, lastOf};
-ghost use Rattle.definitions.specs.Frames.{linesOf, frameOf, framesIn};
+ghost use Rattle.definitions.specs.Frames.{Frame, linesOf, frameOf, framesIn};
 ghost use Rattle.definitions.specs.Load.{sized, lineFormed, formed, sorted, ordered, counted};
 ghost use Rattle.text.specs.Lines.{first};
 ghost use Rattle.text.specs.Shape.{is, Small, more, shapeOf};
@@ -32,24 +32,6 @@ pub fn line_at(t: &[u8], at: usize) -> Line
     Line { kind, next }
 }
 
-// Is no kind below the one before it?
-pub fn sorted(t: &[u8]) -> bool
-    requires { ⌜ (sized (now t) ≡ true) × (formed (now t) ≡ true) ⌝ }
-    ensures { λ r. ⌜ r ≡ sorted (framesIn (now (t .entry))) ⌝ }
-{
-    let mut at: usize = 0;
-    let mut last: usize = 0;
-    while at < t.len() {
-        let l = line_at(t, at);
-        if l.kind < last {
-            return false;
-        }
-        last = l.kind;
-        at = l.next;
-    }
-    true
-}
-
 fn one(a: usize, b: usize) -> usize
     ensures { λ r. ⌜ (r ≡ is a b) × (r ≤ 1) ⌝ }
 {
@@ -74,10 +56,16 @@ pub fn count(s: Shape, k: usize) -> Shape
     }
 }
 
-// How many lines there are of each kind. Each is counted in its own sum, so the order need not be known yet.
-pub fn shape_of(t: &[u8]) -> Shape
+// How many lines there are of each kind, and whether no kind is below the one before it.
+pub struct Outline {
+    pub shape: Shape,
+    pub sorted: bool,
+}
+
+// Both in one walk over the lines. Each kind is counted in its own sum, so the order need not be known for that.
+pub fn outline_of(t: &[u8]) -> Outline
     requires { ⌜ (sized (now t) ≡ true) × (formed (now t) ≡ true) ⌝ }
-    ensures { λ r. ⌜ r ≡ shapeOf (framesIn (now (t .entry))) ⌝ }
+    ensures { λ r. ⌜ (r .shape ≡ shapeOf (framesIn (now (t .entry)))) × (r .sorted ≡ sorted (framesIn (now (t .entry)))) ⌝ }
 {
     let mut s = Shape {
         groups: 0,
@@ -87,27 +75,37 @@ pub fn shape_of(t: &[u8]) -> Shape
         steps: 0,
         ends: 0,
     };
+    let mut sorted = true;
+    let mut last: usize = 0;
     let mut at: usize = 0;
     while at < t.len() {
         let l = line_at(t, at);
         s = count(s, l.kind);
+        sorted = sorted & (last <= l.kind);
+        last = l.kind;
         at = l.next;
     }
-    s
+    Outline {
+        shape: s,
+        sorted: sorted,
+    }
 }
 
-// Question 3: "One 00 first, then the 01s, 02s, 03s and 04s in that order (any of these four may be absent), one 05 last?"
-pub fn ordered(t: &[u8], s: Shape) -> bool
-    requires { ⌜ (sized (now t) ≡ true) × (formed (now t) ≡ true) × (s ≡ shapeOf (framesIn (now t))) ⌝ }
-    ensures { λ r. ⌜ r ≡ ordered (framesIn (now (t .entry))) ⌝ }
+pub fn shape_of(t: &[u8]) -> Shape
+    requires { ⌜ (sized (now t) ≡ true) × (formed (now t) ≡ true) ⌝ }
+    ensures { λ r. ⌜ r ≡ shapeOf (framesIn (now (t .entry))) ⌝ }
 {
-    if !sorted(t) {
-        return false;
-    }
-    if s.groups != 1 {
-        return false;
-    }
-    s.ends == 1
+    let o = outline_of(t);
+    o.shape
+}
+
+// Question 3: "One 00 first, then the 01s, 02s, 03s and 04s in that order (any of these four may be absent), one 05 last?" Asked of the outline of
+// whichever frames.
+pub fn ordered(o: Outline) -> bool
+    ensures { λ r. ⌜ ((fs : List Frame) → o .shape ≡ shapeOf fs → o .sorted ≡ sorted fs → r ≡ ordered fs) ⌝ }
+{
+    let s = o.shape;
+    o.sorted & (s.groups == 1) & (s.ends == 1)
 }
 
 // How many lines there are before the last.

@@ -1,7 +1,7 @@
 -- The layer of lines and frames: a text that questions 1 and 2 take is the text of its frames, and good frames are the frames of their text.
 -- Assumes nothing.
 use mathlib.Core.Path.{_≡_, refl, sym, ap, _∙_}
-use mathlib.Core.Bool.{Bool, true, false, _&&_}
+use mathlib.Core.Bool.{Bool, true, false, _&&_, and-assoc}
 use mathlib.Core.List.{List, [], _∷_, _++_, map, append-assoc, append-nil, map-map}
 use Prim.Native.Nat.{ℕ, zero, suc, _+_, _-_, _^_, _<_, _≤_}
 use native.Mathlib.Omega.{arith}
@@ -283,16 +283,11 @@ known t at h z g =
       rest = rw (← next) (every-tail lineFormed l (linesOf (drop (suc (length l)) s)) (rw split at g));
     }
 
--- a loop over the kinds: one that does not fall
-pub sorted-next : (fs gs : List Frame) (f : Frame) (k last : ℕ) → fs ≡ f ∷ gs → k ≡ f .kind → last ≤ k
-    → linkedFrom leb k (kindsOf gs) ≡ linkedFrom leb last (kindsOf fs)
+-- a loop over the kinds: one more, joined to the answer so far
+pub sorted-more : (fs gs : List Frame) (f : Frame) (k last : ℕ) (o : Bool) → fs ≡ f ∷ gs → k ≡ f .kind
+    → o && leb last k && linkedFrom leb k (kindsOf gs) ≡ o && linkedFrom leb last (kindsOf fs)
 unfolding linkedFrom
-sorted-next fs gs f k last e p h = rw (e, ← p, le-leb last k h)
-
--- and one that falls
-pub sorted-stop : (fs gs : List Frame) (f : Frame) (k last : ℕ) → fs ≡ f ∷ gs → k ≡ f .kind → k < last → linkedFrom leb last (kindsOf fs) ≡ false
-unfolding linkedFrom
-sorted-stop fs gs f k last e p h = rw (e, ← p, lt-leb last k h)
+sorted-more fs gs f k last o e p = rw (e, ← p) (and-assoc o _ _)
 
 -- no frames are left at the end
 pub none-left : (t : List ℕ) (at : ℕ) → length t ≤ at → framesIn (drop at t) ≡ []

@@ -3,7 +3,8 @@ use mathlib.Core.Path.{_≡_, sym, _∙_}
 use mathlib.Core.Bool.{true}
 use borrow.Author.Needs.{needs}
 use Rattle.definitions.specs.Lists.{firstNo}
-use Rattle.definitions.specs.Load.{sized, formed, textQuestions, mapQuestions, loadNumber}
+use Rattle.definitions.specs.Frames.{framesIn}
+use Rattle.definitions.specs.Load.{sized, formed, ordered, textQuestions, mapQuestions, loadNumber}
 use Rattle.text.specs.RoundTrip.{Framed}
 use Rattle.text.specs.Loading.{behind-text}
 use Rattle.door.specs.Questions.{behind, no, yes}
@@ -16,11 +17,15 @@ two c =
     let e1 = c .before .before in
     (yes (e1 .before .sized .ensures) (e1 .if1 .left), yes (c .before .formed .ensures) (c .if2 .left))
 
-framed : (c : tie.Else4) → Framed (c .before .before .before .before .before .before .before .before .before .before .args .t .now)
+-- question 3, asked of the outline of these frames
+asked : (c : tie.After-ordered) → c .ordered .result ≡ ordered (framesIn (c .before .before .before .before .before .before .before .before .args .t .now))
+asked c = let o = c .before .before .outline-of .ensures in c .ordered .ensures _ (o .0) (o .1)
+
+framed : (c : tie.Else4) → Framed (c .before .before .before .before .before .before .before .before .before .before .before .args .t .now)
 framed c =
     let e3 = c .before .before in
-    let y = two (e3 .before .before .before) in
-    record { sized = y .0; formed = y .1; ordered = yes (e3 .before .ordered .ensures) (e3 .if3 .left); counted = yes (c .before .counted .ensures) (c .if4 .left) }
+    let y = two (e3 .before .before .before .before) in
+    record { sized = y .0; formed = y .1; ordered = yes (asked (e3 .before)) (e3 .if3 .left); counted = yes (c .before .counted .ensures) (c .if4 .left) }
 
 sized-requires : tie.Need-sized-requires
 sized-requires c κs = search needs
@@ -38,27 +43,27 @@ returns-2 c =
     let e1 = c .before .before in
     simp (yes (e1 .before .sized .ensures) (e1 .if1 .left), no (c .before .formed .ensures) (c .if2 .taken))
 
-shape-of-requires : tie.Need-shape-of-requires
-shape-of-requires c κs = two c
+outline-of-requires : tie.Need-outline-of-requires
+outline-of-requires c κs = two c
 
 ordered-requires : tie.Need-ordered-requires
-ordered-requires c κs = let y = two (c .before) in (y .0, y .1, c .shape-of .ensures)
+ordered-requires c κs = search needs
 
 returns-3 : tie.Need-returns-3
 unfolding loadNumber textQuestions firstNo
-returns-3 c = let y = two (c .before .before .before) in simp (y .0, y .1, no (c .before .ordered .ensures) (c .if3 .taken))
+returns-3 c = let y = two (c .before .before .before .before) in simp (y .0, y .1, no (asked (c .before)) (c .if3 .taken))
 
 counted-requires : tie.Need-counted-requires
 counted-requires c κs =
-    let y = two (c .before .before .before) in
-    (y .0, y .1, yes (c .before .ordered .ensures) (c .if3 .left), c .before .before .shape-of .ensures)
+    let y = two (c .before .before .before .before) in
+    (y .0, y .1, yes (asked (c .before)) (c .if3 .left), c .before .before .before .outline-of .ensures .0)
 
 returns-4 : tie.Need-returns-4
 unfolding loadNumber textQuestions firstNo
 returns-4 c =
     let e3 = c .before .before in
-    let y = two (e3 .before .before .before) in
-    simp (y .0, y .1, yes (e3 .before .ordered .ensures) (e3 .if3 .left), no (c .before .counted .ensures) (c .if4 .taken))
+    let y = two (e3 .before .before .before .before) in
+    simp (y .0, y .1, yes (asked (e3 .before)) (e3 .if3 .left), no (c .before .counted .ensures) (c .if4 .taken))
 
 ranged-requires : tie.Need-ranged-requires
 ranged-requires c κs = (framed c, search needs)
@@ -86,7 +91,8 @@ behind-6-requires c κs =
     let i = c .before .before .before .before .before in
     let e6 = i .before in
     let e5 = e6 .before .before in
-    ((framed (e5 .before .before), search needs, yes (e5 .before .ranged .ensures) (e5 .if5 .left), yes (e6 .before .rising .ensures) (e6 .if6 .left)), i .items-of .ensures)
+    let e4 = e5 .before .before in
+    ((framed e4, e4 .before .before .before .before .before .outline-of .ensures .0, yes (e5 .before .ranged .ensures) (e5 .if5 .left), yes (e6 .before .rising .ensures) (e6 .if6 .left)), i .items-of .ensures)
 
 returns-7 : tie.Need-returns-7
 unfolding mapQuestions behind firstNo
@@ -104,7 +110,7 @@ load-spec =
     returns
     formed-requires
     returns-2
-    shape-of-requires
+    outline-of-requires
     ordered-requires
     returns-3
     counted-requires
