@@ -46,6 +46,24 @@ pub fn device(t: &[u8], k: usize) -> Device
     }
 }
 
+// The number of device k, for those who need no more of it.
+pub fn device_number(t: &[u8], k: usize) -> u32
+    requires { ⌜ Framed (now t) × (k < length (mapOf (now t) .devices)) ⌝ }
+    ensures { λ r. ⌜ r ≡ getD (mapOf (now (t .entry)) .devices) k noDevice .number ⌝ }
+{
+    let at = lines::GROUPS + k * lines::DEVICE;
+    words::read_four(t, at + 2)
+}
+
+// And its weight.
+pub fn device_weight(t: &[u8], k: usize) -> u32
+    requires { ⌜ Framed (now t) × (k < length (mapOf (now t) .devices)) ⌝ }
+    ensures { λ r. ⌜ r ≡ getD (mapOf (now (t .entry)) .devices) k noDevice .weight ⌝ }
+{
+    let at = lines::GROUPS + k * lines::DEVICE;
+    words::read_eight(t, at + WEIGHT_AT)
+}
+
 // Bucket k.
 pub fn bucket(t: &[u8], s: Shape, k: usize) -> Bucket
     requires { ⌜ Framed (now t) × (s ≡ shapeOf (framesIn (now t))) × (k < length (mapOf (now t) .buckets)) ⌝ }

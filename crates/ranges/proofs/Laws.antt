@@ -6,10 +6,10 @@ use mathlib.Core.List.{List, map}
 use Prim.Native.Nat.{ℕ, zero, suc, _+_, _*_, _<_, _≤_}
 use native.Mathlib.Omega.{arith}
 use native.Mathlib.Numerals.{add-one}
-use lib.Dec.{leb}
+use lib.Dec.{leb, ltb}
 use lib.ListN.{length, getD, drop, drop-of-length-le}
 use lib.Seq.{drop-cons}
-use borrow.Author.Tests.{not-true, not-false, le-leb}
+use borrow.Author.Tests.{not-true, not-false, le-leb, lt-ltb, le-ltb}
 use Rattle.definitions.specs.declared.Device.{Device}
 use Rattle.definitions.specs.Lists.{every, linkedFrom, linked, sum}
 use Rattle.definitions.specs.Map.{mapOf}
@@ -83,6 +83,41 @@ module _ {A : Type 0} (p : A → A → Bool) (xs : List A) (d : A) where
         chained-stop u =
             let y : p last (getD xs k d) ≡ false = rw q at u in
             sym (linked-stop p xs d k last (omega (arith, e)) y) ∙ h .1
+
+-- ---- the same by a number of each record, where v, the number of the one before it, is all that is kept of that
+
+module _ {A : Type 0} (f : A → ℕ) where
+  abbrev pub below : A → A → Bool
+  below a b = ltb (f a) (f b)
+
+  module _ (xs : List A) (d : A) where
+    -- v is the number of the last of the first k records
+    pub record Last (k v : ℕ) : Type 0 where
+      pub last : A
+      pub number : v ≡ f last
+      pub chained : Chained below xs d k last
+
+    module _ (n : ℕ) (e : n ≡ length xs) where
+      -- the first is read
+      pub last-first : (v : ℕ) → (n ≡ 0 → ⊥) → v ≡ f (getD xs 0 d) → Last 1 v
+      last-first v z q = record { last = getD xs 0 d; number = q; chained = chained-first below xs d n e (getD xs 0 d) z refl }
+
+      module _ (k v : ℕ) (h : Last k v) where
+        -- all are read
+        pub last-end : n ≤ k → true ≡ linked below xs
+        last-end = chained-end below xs d n e k (h .last) (h .chained)
+
+        module _ (w : ℕ) (l : k < n) (q : w ≡ f (getD xs k d)) where
+          -- one more is above the last
+          pub last-next : v < w → Last (k + 1) w
+          last-next u =
+              let y = lt-ltb (f (h .last)) (f (getD xs k d)) (omega (arith, u, q, h .number)) in
+              record { last = getD xs k d; number = q; chained = chained-next below xs d n e k (h .last) (h .chained) (getD xs k d) l refl y }
+
+          -- one is not
+          pub last-stop : w ≤ v → false ≡ linked below xs
+          last-stop u =
+              chained-stop below xs d n e k (h .last) (h .chained) (getD xs k d) l refl (le-ltb (f (h .last)) (f (getD xs k d)) (omega (arith, u, q, h .number)))
 
 -- ---- a loop that adds up a number of each record; v is the sum so far
 

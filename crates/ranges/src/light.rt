@@ -17,8 +17,8 @@ pub fn light(t: &[u8], s: Shape) -> bool
     let mut total: u64 = 0;
     let mut k: usize = 0;
     while k < s.devices {
-        let d = records::device(t, k);
-        total += d.weight as u64;
+        let weight = records::device_weight(t, k);
+        total += weight as u64;
         k += 1;
     }
     total <= 67107840

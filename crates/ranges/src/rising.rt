@@ -20,11 +20,11 @@ fn devices(t: &[u8], s: Shape) -> bool
     if s.devices == 0 {
         return true;
     }
-    let mut last = records::device(t, 0);
+    let mut last = records::device_number(t, 0);
     let mut k: usize = 1;
     while k < s.devices {
-        let d = records::device(t, k);
-        if d.number <= last.number {
+        let d = records::device_number(t, k);
+        if d <= last {
             return false;
         }
         last = d;

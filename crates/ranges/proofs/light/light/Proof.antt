@@ -1,6 +1,6 @@
 -- `ranges::light::light` meets its contract. The loop's invariant: the sum so far and the weights from k on come to the whole, which fits.
 -- Assumes nothing.
-use mathlib.Core.Path.{_≡_, ap}
+use mathlib.Core.Path.{_≡_, refl, ap}
 use mathlib.Core.List.{List}
 use Prim.Native.Nat.{ℕ, _+_, _-_, _*_, _≤_}
 use native.Mathlib.Omega.{arith}
@@ -32,24 +32,24 @@ count : (s : tie.Start Inv-loop μ-loop) → s .args .s .devices ≡ length (xs 
 count s = shape-devices (s .args .t .now) (s .args .s) (s .pre .1)
 
 -- with one weight more the sum fits
-small : (c : tie.After-device Inv-loop μ-loop) → c .before .before .before .loop .total + c .device .result .weight ≤ 65536 * 65535
+small : (c : tie.After-device-weight Inv-loop μ-loop) → c .before .before .before .loop .total + c .device-weight .result ≤ 65536 * 65535
 small c =
     let b = c .before in
     let l = b .before .before in
     let s = l .before .before in
-    omega (arith, summed-most weight (xs s) _ (l .loop .k) (l .loop .total) (count s) (l .loop .inv) noDevice _ (b .if1 .taken) (c .device .ensures), weights-most (s .args .t .now) (s .pre .0) (s .pre .2))
+    omega (arith, c .device-weight .ensures, summed-most weight (xs s) _ (l .loop .k) (l .loop .total) (count s) (l .loop .inv) noDevice _ (b .if1 .taken) refl, weights-most (s .args .t .now) (s .pre .0) (s .pre .2))
 
 loop-holds : tie.Need-loop-holds Inv-loop μ-loop
 loop-holds c = summed-none weight (xs (c .before))
 
-device-requires : tie.Need-device-requires Inv-loop μ-loop
-device-requires c κs = let s = c .before .before .before .before in (s .pre .0, omega (arith, count s))
+device-weight-requires : tie.Need-device-weight-requires Inv-loop μ-loop
+device-weight-requires c κs = let s = c .before .before .before .before in (s .pre .0, omega (arith, count s))
 
 cast-total : tie.Need-cast-total Inv-loop μ-loop
-cast-total c = omega (arith, small (c .before))
+cast-total c = omega (arith, small c)
 
 add-total : tie.Need-add-total Inv-loop μ-loop
-add-total c = omega (arith, small (c .before))
+add-total c = omega (arith, small c)
 
 add-k : tie.Need-add-k Inv-loop μ-loop
 add-k c = search needs
@@ -59,10 +59,10 @@ loop-less c = search needs
 
 loop-again : tie.Need-loop-again Inv-loop μ-loop
 loop-again c =
-    let b = c .before .before in
+    let b = c .before in
     let l = b .before .before in
     let s = l .before .before in
-    summed-next weight (xs s) _ (l .loop .k) (l .loop .total) (count s) (l .loop .inv) noDevice _ (b .if1 .taken) (c .before .device .ensures)
+    rw (c .device-weight .ensures) (summed-next weight (xs s) _ (l .loop .k) (l .loop .total) (count s) (l .loop .inv) noDevice _ (b .if1 .taken) refl)
 
 returns : tie.Need-returns Inv-loop μ-loop
 unfolding light
@@ -78,7 +78,7 @@ light-spec =
     Inv-loop
     μ-loop
     loop-holds
-    device-requires
+    device-weight-requires
     cast-total
     add-total
     add-k

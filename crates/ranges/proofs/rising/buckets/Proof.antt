@@ -1,33 +1,23 @@
 -- `ranges::rising::buckets` meets its contract. The loop's invariant: what the last of the first k buckets and those from k on say is what all say.
 -- Assumes nothing.
-use mathlib.Core.Path.{_≡_, refl}
-use mathlib.Core.Bool.{Bool}
+use mathlib.Core.Path.{_≡_}
 use mathlib.Core.List.{List}
 use Prim.Native.Nat.{ℕ, _-_}
 use native.Mathlib.Omega.{arith}
-use lib.Dec.{ltb}
-use lib.ListN.{length, getD}
+use lib.ListN.{length}
 use borrow.Author.Needs.{needs}
-use borrow.Author.Tests.{lt-ltb, le-ltb}
 use Rattle.definitions.specs.declared.Bucket.{Bucket}
 use Rattle.definitions.specs.Map.{mapOf}
 use Rattle.text.specs.Records.{noBucket, shape-buckets}
-use Rattle.ranges.proofs.Laws.{Chained, chained-none, chained-first, chained-next, chained-stop, chained-end}
+use Rattle.ranges.proofs.Laws.{below, Last, chained-none, last-first, last-next, last-stop, last-end}
 use Rattle.ranges.proofs.rising.buckets.Statement.{statement}
 use Rattle.ranges.proofs.rising.buckets.Tie as tie
 
--- the order of two buckets
-abbrev below : Bucket → Bucket → Bool
-below a b = ltb (a .number) (b .number)
-
--- the last of the first k buckets, by its number
-record Last (bs : List Bucket) (k n : ℕ) : Type 0 where
-  bucket : Bucket
-  number : n ≡ bucket .number
-  chained : Chained below bs noBucket k bucket
+abbrev number : Bucket → ℕ
+number b = b .number
 
 abbrev Inv-loop : tie.InvT-loop
-Inv-loop t s last₀ k₀ last k = Last (mapOf t .buckets) k last
+Inv-loop t s last₀ k₀ last k = Last number (mapOf t .buckets) noBucket k last
 
 abbrev μ-loop : tie.MeasureT-loop
 μ-loop t s last₀ k₀ last k = s .buckets - k
@@ -40,7 +30,7 @@ count : (s : tie.Start Inv-loop μ-loop) → s .args .s .buckets ≡ length (xs 
 count s = shape-buckets (s .args .t .now) (s .args .s) (s .pre .1)
 
 returns : tie.Need-returns Inv-loop μ-loop
-returns c = let s = c .before .before .before in chained-none below (xs s) noBucket _ (count s) (c .if1 .taken)
+returns c = let s = c .before .before .before in chained-none (below number) (xs s) noBucket _ (count s) (c .if1 .taken)
 
 bucket-number-requires : tie.Need-bucket-number-requires Inv-loop μ-loop
 bucket-number-requires c κs = let s = c .before .before .before in (s .pre .0, s .pre .1, omega (arith, count s))
@@ -48,11 +38,7 @@ bucket-number-requires c κs = let s = c .before .before .before in (s .pre .0, 
 loop-holds : tie.Need-loop-holds Inv-loop μ-loop
 loop-holds c =
     let s = c .before .before .before .before in
-    record {
-      bucket = getD (xs s) 0 noBucket;
-      number = c .bucket-number .ensures;
-      chained = chained-first below (xs s) noBucket _ (count s) _ (c .before .if1 .left) refl;
-    }
+    last-first number (xs s) noBucket _ (count s) _ (c .before .if1 .left) (c .bucket-number .ensures)
 
 bucket-number-requires-2 : tie.Need-bucket-number-requires-2 Inv-loop μ-loop
 bucket-number-requires-2 c κs =
@@ -64,9 +50,7 @@ returns-2 c =
     let b = c .before .before in
     let l = b .before .before in
     let s = l .before .before .before .before .before in
-    let i = l .loop .inv in
-    chained-stop below (xs s) noBucket _ (count s) (l .loop .k) (i .bucket) (i .chained) _ (b .if2 .taken) refl
-    (le-ltb (i .bucket .number) (getD (xs s) (l .loop .k) noBucket .number) (omega (arith, i .number, c .before .bucket-number2 .ensures, c .if3 .taken)))
+    last-stop number (xs s) noBucket _ (count s) (l .loop .k) (l .loop .last) (l .loop .inv) _ (b .if2 .taken) (c .before .bucket-number2 .ensures) (c .if3 .taken)
 
 add-k : tie.Need-add-k Inv-loop μ-loop
 add-k c = search needs
@@ -79,18 +63,13 @@ loop-again c =
     let b = c .before .before in
     let l = b .before .before in
     let s = l .before .before .before .before .before in
-    let i = l .loop .inv in
-    record {
-      bucket = getD (xs s) (l .loop .k) noBucket;
-      number = c .before .bucket-number2 .ensures;
-      chained = chained-next below (xs s) noBucket _ (count s) (l .loop .k) (i .bucket) (i .chained) _ (b .if2 .taken) refl (lt-ltb (i .bucket .number) (getD (xs s) (l .loop .k) noBucket .number) (omega (arith, i .number, c .before .bucket-number2 .ensures, c .if3 .left)));
-    }
+    last-next number (xs s) noBucket _ (count s) (l .loop .k) (l .loop .last) (l .loop .inv) _ (b .if2 .taken) (c .before .bucket-number2 .ensures) (c .if3 .left)
 
 returns-3 : tie.Need-returns-3 Inv-loop μ-loop
 returns-3 c =
     let l = c .before .before in
     let s = l .before .before .before .before .before in
-    chained-end below (xs s) noBucket _ (count s) (l .loop .k) (l .loop .inv .bucket) (l .loop .inv .chained) (c .if2 .left)
+    last-end number (xs s) noBucket _ (count s) (l .loop .k) (l .loop .last) (l .loop .inv) (c .if2 .left)
 
 pub buckets-spec : {M : Type 1} → statement M
 buckets-spec =

@@ -1,27 +1,23 @@
 -- `ranges::rising::devices` meets its contract. The loop's invariant: what the last of the first k devices and those from k on say is what all say.
 -- Assumes nothing.
 use mathlib.Core.Path.{_≡_}
-use mathlib.Core.Bool.{Bool}
 use mathlib.Core.List.{List}
-use Prim.Native.Nat.{_-_}
+use Prim.Native.Nat.{ℕ, _-_}
 use native.Mathlib.Omega.{arith}
-use lib.Dec.{ltb}
 use lib.ListN.{length}
 use borrow.Author.Needs.{needs}
-use borrow.Author.Tests.{lt-ltb, le-ltb}
 use Rattle.definitions.specs.declared.Device.{Device}
 use Rattle.definitions.specs.Map.{mapOf}
 use Rattle.text.specs.Records.{noDevice, shape-devices}
-use Rattle.ranges.proofs.Laws.{Chained, chained-none, chained-first, chained-next, chained-stop, chained-end}
+use Rattle.ranges.proofs.Laws.{below, Last, chained-none, last-first, last-next, last-stop, last-end}
 use Rattle.ranges.proofs.rising.devices.Statement.{statement}
 use Rattle.ranges.proofs.rising.devices.Tie as tie
 
--- the order of two devices
-abbrev below : Device → Device → Bool
-below a b = ltb (a .number) (b .number)
+abbrev number : Device → ℕ
+number d = d .number
 
 abbrev Inv-loop : tie.InvT-loop
-Inv-loop t s last₀ k₀ last k = Chained below (mapOf t .devices) noDevice k last
+Inv-loop t s last₀ k₀ last k = Last number (mapOf t .devices) noDevice k last
 
 abbrev μ-loop : tie.MeasureT-loop
 μ-loop t s last₀ k₀ last k = s .devices - k
@@ -34,28 +30,27 @@ count : (s : tie.Start Inv-loop μ-loop) → s .args .s .devices ≡ length (xs 
 count s = shape-devices (s .args .t .now) (s .args .s) (s .pre .1)
 
 returns : tie.Need-returns Inv-loop μ-loop
-returns c = let s = c .before .before .before in chained-none below (xs s) noDevice _ (count s) (c .if1 .taken)
+returns c = let s = c .before .before .before in chained-none (below number) (xs s) noDevice _ (count s) (c .if1 .taken)
 
-device-requires : tie.Need-device-requires Inv-loop μ-loop
-device-requires c κs = let s = c .before .before .before in (s .pre .0, omega (arith, count s))
+device-number-requires : tie.Need-device-number-requires Inv-loop μ-loop
+device-number-requires c κs = let s = c .before .before .before in (s .pre .0, omega (arith, count s))
 
 loop-holds : tie.Need-loop-holds Inv-loop μ-loop
 loop-holds c =
     let s = c .before .before .before .before in
-    chained-first below (xs s) noDevice _ (count s) _ (c .before .if1 .left) (c .device .ensures)
+    last-first number (xs s) noDevice _ (count s) _ (c .before .if1 .left) (c .device-number .ensures)
 
-device-requires-2 : tie.Need-device-requires-2 Inv-loop μ-loop
-device-requires-2 c κs =
+device-number-requires-2 : tie.Need-device-number-requires-2 Inv-loop μ-loop
+device-number-requires-2 c κs =
     let s = c .before .before .before .before .before .before .before in
     (s .pre .0, omega (arith, count s))
 
 returns-2 : tie.Need-returns-2 Inv-loop μ-loop
 returns-2 c =
-    let b = c .before .before .before .before in
+    let b = c .before .before in
     let l = b .before .before in
     let s = l .before .before .before .before .before in
-    chained-stop below (xs s) noDevice _ (count s) (l .loop .k) (l .loop .last) (l .loop .inv) _ (b .if2 .taken) (c .before .before .before .device2 .ensures)
-    (le-ltb _ _ (c .if3 .taken))
+    last-stop number (xs s) noDevice _ (count s) (l .loop .k) (l .loop .last) (l .loop .inv) _ (b .if2 .taken) (c .before .device-number2 .ensures) (c .if3 .taken)
 
 add-k : tie.Need-add-k Inv-loop μ-loop
 add-k c = search needs
@@ -65,17 +60,16 @@ loop-less c = search needs
 
 loop-again : tie.Need-loop-again Inv-loop μ-loop
 loop-again c =
-    let b = c .before .before .before .before in
+    let b = c .before .before in
     let l = b .before .before in
     let s = l .before .before .before .before .before in
-    chained-next below (xs s) noDevice _ (count s) (l .loop .k) (l .loop .last) (l .loop .inv) _ (b .if2 .taken) (c .before .before .before .device2 .ensures)
-    (lt-ltb _ _ (c .if3 .left))
+    last-next number (xs s) noDevice _ (count s) (l .loop .k) (l .loop .last) (l .loop .inv) _ (b .if2 .taken) (c .before .device-number2 .ensures) (c .if3 .left)
 
 returns-3 : tie.Need-returns-3 Inv-loop μ-loop
 returns-3 c =
     let l = c .before .before in
     let s = l .before .before .before .before .before in
-    chained-end below (xs s) noDevice _ (count s) (l .loop .k) (l .loop .last) (l .loop .inv) (c .if2 .left)
+    last-end number (xs s) noDevice _ (count s) (l .loop .k) (l .loop .last) (l .loop .inv) (c .if2 .left)
 
 pub devices-spec : {M : Type 1} → statement M
 devices-spec =
@@ -84,9 +78,9 @@ devices-spec =
     Inv-loop
     μ-loop
     returns
-    device-requires
+    device-number-requires
     loop-holds
-    device-requires-2
+    device-number-requires-2
     returns-2
     add-k
     loop-less
