@@ -1,5 +1,5 @@
 -- Two runs made at once, as long as their walks are one. Assumes nothing.
-use mathlib.Core.Path.{_≡_, refl, sym, ap, _∙_}
+use mathlib.Core.Path.{_≡_, refl, ap}
 use mathlib.Core.List.{List}
 use mathlib.Core.Logic.{⊎-elim}
 use Prim.Native.Nat.{ℕ, zero, suc, _+_, _<_, _≤_}
@@ -23,7 +23,7 @@ use Rattle.placement.specs.Chosen.{UnderBounds, hole-ranked, hole-bounds, bucke
 use Rattle.placement.specs.Progress.{Acted}
 use Rattle.lockstep.specs.declared.Course.{Course}
 use Rattle.lockstep.specs.declared.Course.the-variants.{Forked, Shared}
-use Rattle.lockstep.specs.Lockstep.{Ranks}
+use Rattle.causes.specs.Ends.{RankEnds}
 
 -- what holds of the end of two ranks, where they are one
 abbrev pub Shares : (Ranked → Type 0) → Course → Type 0
@@ -68,20 +68,18 @@ module _ (v w : View) (x : ℕ) (s : Wanted) (a r : ℕ) (held : List ℕ) (f : 
 
   -- from the two ranks at the bucket of the entry
   pub shares-rank : (b : ℕ) (c : Course) → (a ≡ hole → ⊥) → b ≡ bucketNumber a
-      → Ranks c (rankOf v x (s .mode) (s .n) (s .t) held b r f) (rankOf w x (s .mode) (s .n) (s .t) held b r f) → Shares (Under v w x s a r held f) c
+      → RankEnds c (rankOf v x (s .mode) (s .n) (s .t) held b r f) (rankOf w x (s .mode) (s .n) (s .t) held b r f) → Shares (Under v w x s a r held f) c
   shares-rank b (Forked p) h e q = tt
-  shares-rank b (Shared k) h e (q, z) =
-      let i : k ≡ rankOf v x (s .mode) (s .n) (s .t) held b r f .ranked = sym z in
-      let j : k ≡ rankOf w x (s .mode) (s .n) (s .t) held b r f .ranked = sym z ∙ ap (λ (u : RankEvents). u .ranked) q in (
-        bucket-ranked v x (s .mode) (s .n) (s .t) a r held f b k e i h,
-        bucket-ranked w x (s .mode) (s .n) (s .t) a r held f b k e j h,
-        (
-          omega (arith, ap (λ (u : Ranked). u .fr) i, rank-fr v x (s .mode) (s .n) (s .t) held b r f),
-          omega (arith, ap (λ (u : Ranked). u .f) i, rank-f v x (s .mode) (s .n) (s .t) held b r f),
-          omega (arith, ap (λ (u : Ranked). u .inner) i, rank-inner v x (s .n) held (s .mode) (s .t) b r f),
-          bucket-tries v x (s .mode) (s .n) (s .t) a r held f b k e i,
-        ),
-      )
+  shares-rank b (Shared k) h e (i, j) = (
+    bucket-ranked v x (s .mode) (s .n) (s .t) a r held f b k e i h,
+    bucket-ranked w x (s .mode) (s .n) (s .t) a r held f b k e j h,
+    (
+      omega (arith, ap (λ (u : Ranked). u .fr) i, rank-fr v x (s .mode) (s .n) (s .t) held b r f),
+      omega (arith, ap (λ (u : Ranked). u .f) i, rank-f v x (s .mode) (s .n) (s .t) held b r f),
+      omega (arith, ap (λ (u : Ranked). u .inner) i, rank-inner v x (s .n) held (s .mode) (s .t) b r f),
+      bucket-tries v x (s .mode) (s .n) (s .t) a r held f b k e i,
+    ),
+  )
 
 -- ---- a step of both
 

@@ -2,4 +2,5 @@
 pub mod Told
 pub mod Under
 pub mod Beside
+pub mod Ends
 pub mod Joint

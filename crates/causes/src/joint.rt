@@ -5,7 +5,7 @@ ghost use mathlib.Core.Bool.{true, false};
 ghost use Prim.Native.Nat.{_*_, _≤_};
 ghost use lib.ListN.{length, take};
 ghost use Rattle.laws.specs.Members.{Each};
-ghost use Rattle.hierarchy.specs.Arrays.{viewIn, Sound, actionsIn};
+ghost use Rattle.hierarchy.specs.Arrays.{viewIn, Sound, Flagged, actionsIn};
 ghost use Rattle.blocks.specs.Products.{emittedTo};
 ghost use Rattle.walk.specs.Searches.{Inward};
 ghost use Rattle.placement.specs.Bare.{bareSelect, bareRunTo, filledUp};
@@ -14,6 +14,7 @@ ghost use Rattle.placement.specs.Ruled.{Ready};
 ghost use Rattle.placement.specs.Chosen.{bareIn};
 ghost use Rattle.placement.specs.Progress.{runIn, Room, Doable, Acted};
 ghost use Rattle.causes.specs.Joint.{Under, Shares};
+use crate::ends;
 use blocks::actions;
 use definitions::Action;
 use definitions::Mode;
@@ -23,7 +24,6 @@ use hierarchy::Rule;
 use hierarchy::Values;
 use item::Item;
 use lockstep::Course;
-use lockstep::ranks;
 use placement::rule;
 use placement::rule::Progress;
 use placement::select;
@@ -56,7 +56,7 @@ fn rank_under<'a, 'b>(
     held: &'b [u32],
     f: u32,
 ) -> Course
-    requires { ⌜ Sound (now plan) ⌝ }
+    requires { ⌜ Sound (now plan) × Flagged (now plan) (now old) × Flagged (now plan) (now new) ⌝ }
     requires { ⌜ (wanted .n ≤ 16) × (r ≤ 16) × Inward (wanted .mode) (wanted .t) × Workable a × (f ≤ 1000) ⌝ }
     ensures { λ k. ⌜ Shares (Under (viewIn (now (plan .entry)) (now (old .entry))) (viewIn (now (plan .entry)) (now (new .entry)))
         x wanted a r (now (held .entry)) f) k ⌝ }
@@ -76,7 +76,7 @@ fn rank_under<'a, 'b>(
         start: bucket.bucket_number(),
         r: r,
     };
-    ranks::part_rank(plan, old, new, x, search, held, held, f)
+    ends::rank_ends(plan, old, new, x, search, held, f)
 }
 
 // A select of both runs over the first len entries of the working list, up to where a walk parts. Before it stands what earlier blocks have
@@ -91,7 +91,7 @@ fn select_both<'a, 'b>(
     len: usize,
     wanted: Wanted,
 ) -> Choice
-    requires { ⌜ Sound (now plan) ⌝ }
+    requires { ⌜ Sound (now plan) × Flagged (now plan) (now old) × Flagged (now plan) (now new) ⌝ }
     requires { ⌜ length (now before) ≤ 32 ⌝ }
     requires { ⌜ (1 ≤ wanted .n) × (wanted .n ≤ 16) × (len * wanted .n ≤ 16) × Each Workable (take len working) × Inward (wanted .mode) (wanted .t) ⌝ }
     ensures { λ d. ⌜ (d .parted ≡ false →
@@ -159,7 +159,7 @@ fn selected<'a>(
     n: u32,
     t: u32,
 ) -> Joint
-    requires { ⌜ Sound (now plan) ⌝ }
+    requires { ⌜ Sound (now plan) × Flagged (now plan) (now old) × Flagged (now plan) (now new) ⌝ }
     requires { ⌜ Room p × (p .tries ≤ 1000000) × Doable p (Action.Select mode n t) ⌝ }
     ensures { λ q. ⌜ (q .parted ≡ false →
         Acted (viewIn (now (plan .entry)) (now (old .entry))) x p (Action.Select mode n t) (q .run)
@@ -210,7 +210,7 @@ fn act<'a>(
     p: Progress,
     a: Action,
 ) -> Joint
-    requires { ⌜ Sound (now plan) ⌝ }
+    requires { ⌜ Sound (now plan) × Flagged (now plan) (now old) × Flagged (now plan) (now new) ⌝ }
     requires { ⌜ Room p × (p .tries ≤ 1000000) × Doable p a ⌝ }
     ensures { λ q. ⌜ (q .parted ≡ false →
         Acted (viewIn (now (plan .entry)) (now (old .entry))) x p a (q .run)
@@ -235,7 +235,7 @@ fn act<'a>(
 
 // The steps of the rule for group x in both runs, up to where a walk parts.
 fn run<'a>(plan: &'a Plan, old: &'a Values, new: &'a Values, rule: Rule, x: u32) -> Joint
-    requires { ⌜ (rule .len ≤ 16) × Ready (now plan) (now old) (actionsIn rule) ⌝ }
+    requires { ⌜ (rule .len ≤ 16) × Ready (now plan) (now old) (actionsIn rule) × Flagged (now plan) (now new) ⌝ }
     ensures { λ q. ⌜ (q .parted ≡ false →
         (runIn (q .run) ≡ bareRunTo (viewIn (now (plan .entry)) (now (old .entry))) x (actionsIn rule) (rule .len))
         × (runIn (q .run) ≡ bareRunTo (viewIn (now (plan .entry)) (now (new .entry))) x (actionsIn rule) (rule .len))
@@ -269,7 +269,7 @@ pub fn place_both<'a, 'b>(
     x: u32,
     row: &'b mut [u16],
 ) -> bool
-    requires { ⌜ (rule .len ≤ 16) × Ready (now plan) (now old) (actionsIn rule) ⌝ }
+    requires { ⌜ (rule .len ≤ 16) × Ready (now plan) (now old) (actionsIn rule) × Flagged (now plan) (now new) ⌝ }
     requires { ⌜ emittedTo (actionsIn rule) (rule .len) ≤ length (now row) ⌝ }
     ensures { λ r. ⌜ (r ≡ true →
         (now (row .exit) ≡ filledUp (length (now (row .entry))) (bareRunTo (viewIn (now (plan .entry)) (now (old .entry))) x (actionsIn rule) (rule .len) .list))

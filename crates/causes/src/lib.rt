@@ -10,7 +10,7 @@ ghost use Rattle.definitions.specs.Select.{nowhere};
 ghost use Rattle.definitions.specs.Rule.{runTo};
 ghost use Rattle.definitions.specs.Edit.{parting, causeOf};
 ghost use Rattle.definitions.specs.Calls.{notFirstN};
-ghost use Rattle.hierarchy.specs.Arrays.{viewIn, Sound, actionsIn};
+ghost use Rattle.hierarchy.specs.Arrays.{viewIn, Sound, Flagged, actionsIn};
 ghost use Rattle.walk.specs.Searches.{Inward};
 ghost use Rattle.placement.specs.Working.{Workable};
 ghost use Rattle.placement.specs.Ruled.{Ready};
@@ -18,6 +18,7 @@ ghost use Rattle.placement.specs.Progress.{Acted};
 ghost use Rattle.causes.specs.Under.{TellsUnder, TellsTo};
 ghost use Rattle.causes.specs.Beside.{Able, Listed, Worked, Leads};
 
+mod ends;
 pub mod joint;
 
 use blocks::actions;
@@ -199,6 +200,7 @@ fn listed(p: Both, a: Action) -> [u32; 32]
 // One step more in both runs.
 fn act<'a>(plan: &'a Plan, old: &'a Values, new: &'a Values, x: u32, p: Both, a: Action) -> Both
     requires { ⌜ Sound (now plan) × Able p a ⌝ }
+    requires { ⌜ Flagged (now plan) (now old) × Flagged (now plan) (now new) ⌝ }
     ensures { λ q. ⌜ Leads (viewIn (now (plan .entry)) (now (old .entry))) (viewIn (now (plan .entry)) (now (new .entry))) x p a q ⌝ }
 {
     let from = p.old;

@@ -6,3 +6,5 @@ pub mod Weights
 pub mod Weighing
 pub mod Trees
 pub mod Compiled
+pub mod Dead
+pub mod Living

@@ -1,17 +1,19 @@
 -- What the readers of the text need, and what their loops have read so far. Assumes nothing.
 use mathlib.Core.Path.{_≡_, refl, sym, _∙_}
-use mathlib.Core.List.{List}
-use Prim.Native.Nat.{ℕ, _+_, _-_, _<_, _≤_}
+use mathlib.Core.Bool.{Bool, true, false}
+use mathlib.Core.List.{List, _∷_}
+use Prim.Native.Nat.{ℕ, suc, _+_, _-_, _<_, _≤_}
 use native.Mathlib.Omega.{arith}
 use native.Mathlib.Numerals.{add-one}
-use lib.ListN.{length, getD, take, set, replicate}
-use lib.Seq.{take-all, take-suc, take-suc-set}
+use lib.ListN.{length, getD, take, drop, set, replicate, length-take, drop-of-length-le}
+use lib.Seq.{drop-cons, getD-take, take-all, take-suc, take-suc-set}
 use borrow.Author.Tests.{eq-eqb, ne-eqb}
 use Rattle.definitions.specs.declared.Device.{Device}
 use Rattle.definitions.specs.declared.Bucket.{Bucket}
 use Rattle.definitions.specs.declared.Step.{Step}
 use Rattle.definitions.specs.declared.Change.{Change}
 use Rattle.definitions.specs.declared.Change.the-variants.{Acceptance, Weight, Malformed}
+use Rattle.definitions.specs.Lists.{someOf}
 use Rattle.definitions.specs.Frames.{framesIn}
 use Rattle.definitions.specs.Map.{Map, mapOf}
 use Rattle.definitions.specs.View.{bucketType, kindNumber, acceptanceOf, deviceWeight}
@@ -174,3 +176,20 @@ pub steps-all : (xs ts : List Step) (k n : ℕ) → n ≡ length xs → n ≤ k 
 steps-all xs ts k n e h l p =
     let q : k ≡ n = omega arith in
     rw q at p ∙ take-all n xs (omega arith)
+
+-- a loop that looks for a step from the front, among the first n
+module _ (p : Step → Bool) (xs : List Step) (n k : ℕ) (l : n ≤ length xs) where
+  some-cons : k < n → drop k (take n xs) ≡ getD xs k noStep ∷ drop (suc k) (take n xs)
+  some-cons h = drop-cons (take n xs) k noStep (omega (arith, length-take n xs)) ∙ rw (getD-take n xs k noStep h) refl
+
+  pub some-next : k < n → p (getD xs k noStep) ≡ false → someOf p (drop (k + 1) (take n xs)) ≡ someOf p (drop k (take n xs))
+  unfolding someOf
+  some-next h e = rw (add-one k, some-cons h, e) refl
+
+  pub some-here : k < n → p (getD xs k noStep) ≡ true → someOf p (drop k (take n xs)) ≡ true
+  unfolding someOf
+  some-here h e = rw (some-cons h, e) refl
+
+  pub some-end : n ≤ k → someOf p (drop k (take n xs)) ≡ false
+  unfolding someOf
+  some-end h = rw (drop-of-length-le (take n xs) {i = k} (omega (arith, length-take n xs))) refl

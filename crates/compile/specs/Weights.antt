@@ -20,6 +20,10 @@ use Rattle.compile.specs.Tables.{getD-set}
 unfoldable pub itemIn : List ℕ → List ℕ → ℕ → ℕ
 itemIn devices loads i = cond (isBucket i) (getD loads (bucketNumber i) 0) (getD devices i 0)
 
+-- what a device of this acceptance and weight adds to a live weight: nothing at acceptance 0
+abbrev pub livePart : ℕ → ℕ → ℕ
+livePart acceptance weight = cond (eqb acceptance 0) 0 weight
+
 -- each item is one that a map can have
 abbrev pub Ranged : List ℕ → Type 0
 Ranged items = (i : ℕ) → ItemRange (getD items i 0)
@@ -103,19 +107,20 @@ module _ (f : ℕ → ℕ) (xs : List ℕ) (i n t : ℕ) (e : n + sum (map f (dr
   unfolding sum
   sum-end h = omega (arith, e, ap (λ (l : List ℕ). sum (map f l)) (drop-of-length-le xs {i = i} h))
 
--- a loop that fills an array from the front: one more, and all
-module _ (f : ℕ → ℕ) (xs ts : List ℕ) (i : ℕ) (e : (j : ℕ) → j < i → getD ts j 0 ≡ f (getD xs j 0)) where
-  pub filled-more : (v : ℕ) → i < length ts → v ≡ f (getD xs i 0) → (j : ℕ) → j < i + 1 → getD (set ts i v) j 0 ≡ f (getD xs j 0)
-  filled-more v h q j l = getD-set ts i v j h ∙ go (eqb i j) refl
-    where
-      go : (t : Bool) → eqb i j ≡ t → cond t v (getD ts j 0) ≡ f (getD xs j 0)
-      go true p = q ∙ ap (λ (k : ℕ). f (getD xs k 0)) (eqb-true i j p)
-      go false p = let d : i ≡ j → ⊥ = eqb-false i j p in e j (omega arith)
+-- a loop that fills an array from the front: one more
+pub filled-more : (g : ℕ → ℕ) (ts : List ℕ) (i : ℕ) → ((j : ℕ) → j < i → getD ts j 0 ≡ g j) → (v : ℕ) → i < length ts → v ≡ g i
+    → (j : ℕ) → j < i + 1 → getD (set ts i v) j 0 ≡ g j
+filled-more g ts i e v h q j l = getD-set ts i v j h ∙ go (eqb i j) refl
+  where
+    go : (t : Bool) → eqb i j ≡ t → cond t v (getD ts j 0) ≡ g j
+    go true p = q ∙ ap g (eqb-true i j p)
+    go false p = let d : i ≡ j → ⊥ = eqb-false i j p in e j (omega arith)
 
-  pub filled-all : length xs ≡ length ts → length ts ≤ i → ts ≡ map f xs
-  filled-all n h =
-      ext-getD 0 ts (map f xs) (sym n ∙ sym (length-map xs f))
-      (λ j l. e j (omega arith) ∙ sym (getD-mapped f xs j 0 0 (omega arith)))
+-- and all, of those of a list
+pub filled-all : (f : ℕ → ℕ) (xs ts : List ℕ) (i : ℕ) → ((j : ℕ) → j < i → getD ts j 0 ≡ f (getD xs j 0)) → length xs ≡ length ts → length ts ≤ i → ts ≡ map f xs
+filled-all f xs ts i e n h =
+    ext-getD 0 ts (map f xs) (sym n ∙ sym (length-map xs f))
+    (λ j l. e j (omega arith) ∙ sym (getD-mapped f xs j 0 0 (omega arith)))
 
 -- a loop that takes the greatest: one more, and the end
 module _ (xs : List ℕ) (i n t : ℕ) (e : max n (greatest (drop i xs)) ≡ t) where

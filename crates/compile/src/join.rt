@@ -3,7 +3,7 @@ ghost use mathlib.Core.Path.{_≡_};
 ghost use Prim.Native.Nat.{_+_, _≤_};
 ghost use lib.ListN.{length};
 ghost use Rattle.hierarchy.specs.Sections.{Laid};
-ghost use Rattle.hierarchy.specs.Arrays.{firstsIn, countsIn, typesIn, kindsIn, childrenIn, seedIn, acceptancesIn};
+ghost use Rattle.hierarchy.specs.Arrays.{firstsIn, countsIn, typesIn, kindsIn, childrenIn, seedIn, acceptancesIn, livesIn};
 use hierarchy::Plan;
 use hierarchy::Values;
 
@@ -40,11 +40,16 @@ pub fn plan_of<'a>(
     plan
 }
 
-pub fn values_of<'a>(acceptance: &'a [u32; 1024], words: &'a [u32; 1280]) -> Values
-    ensures { λ v. ⌜ (acceptancesIn v ≡ now (acceptance .entry)) × (childrenIn v ≡ now (words .entry)) ⌝ }
+pub fn values_of<'a>(
+    acceptance: &'a [u32; 1024],
+    words: &'a [u32; 1280],
+    lives: &'a [u32; 256],
+) -> Values
+    ensures { λ v. ⌜ (acceptancesIn v ≡ now (acceptance .entry)) × (childrenIn v ≡ now (words .entry)) × (livesIn v ≡ now (lives .entry)) ⌝ }
 {
-    let mut values = [0u32; hierarchy::SEED];
+    let mut values = [0u32; hierarchy::LIVE + 256];
     lay(acceptance, &mut values, 0);
     lay(words, &mut values, hierarchy::CHILDREN);
+    lay(lives, &mut values, hierarchy::LIVE);
     values
 }

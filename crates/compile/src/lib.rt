@@ -1,5 +1,6 @@
 // A map's text made into flat arrays, once per call.
 ghost use mathlib.Core.Path.{_≡_};
+ghost use mathlib.Core.Bool.{true};
 ghost use Prim.Native.Nat.{ℕ, _≤_};
 ghost use lib.ListN.{length};
 ghost use Rattle.definitions.specs.Frames.{framesIn};
@@ -9,11 +10,12 @@ ghost use Rattle.definitions.specs.Load.{loadNumber};
 ghost use Rattle.definitions.specs.Edit.{put};
 ghost use Rattle.laws.specs.Loadable.{Loadable};
 ghost use Rattle.text.specs.Shape.{shapeOf};
-ghost use Rattle.hierarchy.specs.Arrays.{firstsIn, countsIn, partAt, viewIn, Sound, actionsIn};
+ghost use Rattle.hierarchy.specs.Arrays.{firstsIn, countsIn, partAt, viewIn, livesIn, Sound, Flagged, actionsIn};
 ghost use Rattle.compile.specs.Tables.{Tabled};
 ghost use Rattle.compile.specs.Reading.{Readable};
 ghost use Rattle.compile.specs.Weighing.{bucketWeight};
 ghost use Rattle.compile.specs.Compiled.{Planned, Weighs};
+ghost use Rattle.compile.specs.Living.{liveWeight, Marks};
 use definitions::Change;
 use hierarchy::Hierarchy;
 use hierarchy::Plan;
@@ -55,20 +57,41 @@ pub fn weigh_children<'a>(
     weights::weights_of(own, loads, &all[hierarchy::CHILDREN..hierarchy::SEED])
 }
 
-// With the acceptances of the devices, all that the map is beside its plan.
+// With the acceptances of the devices and the live weights of the buckets, all that the map is beside its plan.
 pub fn values_of<'a>(
     plan: &'a Plan,
     own: &'a [u32; 1024],
     loads: &'a [u32; 256],
     acceptance: &'a [u32; 1024],
+    lives: &'a [u32; 256],
 ) -> Values
     requires { ⌜ ((m : Map) × Weighs m (now plan) (now own) × Tabled (now loads) 256 (bucketWeight m)) ⌝ }
     ensures { λ r. ⌜ ((m : Map) → Weighs m (now (plan .entry)) (now (own .entry)) → Tabled (now (loads .entry)) 256 (bucketWeight m)
         → Tabled (now (acceptance .entry)) 1024 (acceptanceOf m) → viewIn (now (plan .entry)) r ≡ viewOf m) ⌝ }
+    ensures { λ r. ⌜ livesIn r ≡ now (lives .entry) ⌝ }
 {
     let weights = weigh_children(plan, own, loads);
     let words = trees::words_of(plan, weights);
-    join::values_of(acceptance, &words)
+    join::values_of(acceptance, &words, lives)
+}
+
+// The live weights of the buckets, by number: what their devices above acceptance 0 weigh together. Only a select through asks whether one is 0,
+// so without one any other number will do.
+fn live_weights<'a>(
+    plan: &'a Plan,
+    own: &'a [u32; 1024],
+    acceptance: &'a [u32; 1024],
+    through: bool,
+) -> [u32; 256]
+    requires { ⌜ ((m : Map) × Weighs m (now plan) (now own) × Tabled (now acceptance) 1024 (acceptanceOf m)) ⌝ }
+    ensures { λ r. ⌜ ((m : Map) → Weighs m (now (plan .entry)) (now (own .entry)) → Tabled (now (acceptance .entry)) 1024 (acceptanceOf m)
+        → Marks m r × (through ≡ true → Tabled r 256 (liveWeight m))) ⌝ }
+{
+    if through {
+        let live = weights::live_of(own, acceptance);
+        return bucket_weights(plan, &live);
+    }
+    [1u32; 256]
 }
 
 // What no edit changes: children, types, kinds and the seed.
@@ -93,19 +116,21 @@ pub struct Weighed {
 }
 
 // What an edit changes: the weights and the acceptances, beside the plan, which it leaves. The edit need not be written into the text yet;
-// Malformed is no edit.
-pub fn weigh<'a, 'b>(t: &'a [u8], s: Shape, c: Change, plan: &'b Plan) -> Weighed
+// Malformed is no edit. `through` says whether the rule has a select through.
+pub fn weigh<'a, 'b>(t: &'a [u8], s: Shape, c: Change, plan: &'b Plan, through: bool) -> Weighed
     requires { ⌜ Readable (now t) s (put (mapOf (now t)) c) ⌝ }
     requires { ⌜ Planned (mapOf (now t)) (now plan) ⌝ }
     ensures { λ r. ⌜ viewIn (now (plan .entry)) (r .values) ≡ viewOf (put (mapOf (now (t .entry))) c) ⌝ }
     ensures { λ r. ⌜ Tabled (r .loads) 256 (bucketWeight (put (mapOf (now (t .entry))) c)) ⌝ }
     ensures { λ r. ⌜ Sound (now (plan .entry)) ⌝ }
+    ensures { λ r. ⌜ Flagged (now (plan .entry)) (r .values) ⌝ }
 {
     let devices = devices::devices_of(t, s, c);
     let own = devices.weights;
     let acceptance = devices.acceptances;
     let loads = bucket_weights(plan, &own);
-    let values = values_of(plan, &own, &loads, &acceptance);
+    let lives = live_weights(plan, &own, &acceptance, through);
+    let values = values_of(plan, &own, &loads, &acceptance, &lives);
     Weighed {
         values: values,
         loads: loads,
@@ -119,12 +144,13 @@ pub fn compile(t: &[u8], s: Shape, c: Change) -> Hierarchy
     requires { ⌜ Loadable (put (mapOf (now t)) c) ⌝ }
     ensures { λ r. ⌜ viewIn (r .plan) (r .values) ≡ viewOf (put (mapOf (now (t .entry))) c) ⌝ }
     ensures { λ r. ⌜ Sound (r .plan) ⌝ }
+    ensures { λ r. ⌜ Flagged (r .plan) (r .values) ⌝ }
     ensures { λ r. ⌜ (actionsIn (r .rule) ≡ actionsOf (mapOf (now (t .entry)))) × (r .rule .len ≡ length (mapOf (now (t .entry)) .steps)) × (r .rule .len ≤ 16) ⌝ }
 {
     let plan = plan_of(t, s);
-    let weighed = weigh(t, s, c, &plan);
-    let values = weighed.values;
     let rule = steps::rule_of(t, s);
+    let weighed = weigh(t, s, c, &plan, steps::goes_through(rule));
+    let values = weighed.values;
     Hierarchy {
         plan: plan,
         values: values,

@@ -1,7 +1,9 @@
 // The rule.
 ghost use mathlib.Core.Path.{_≡_};
 ghost use Prim.Native.Nat.{_≤_};
+ghost use lib.Dec.{eqb};
 ghost use lib.ListN.{length, take};
+ghost use Rattle.definitions.specs.Lists.{someOf};
 ghost use Rattle.definitions.specs.Map.{mapOf, actionsOf};
 ghost use Rattle.hierarchy.specs.Arrays.{actionsIn};
 ghost use Rattle.compile.specs.Reading.{Readable};
@@ -39,4 +41,22 @@ pub fn rule_of(t: &[u8], s: Shape) -> Rule
         steps: steps,
         len: s.steps,
     }
+}
+
+// Has the rule a select through?
+pub fn goes_through(rule: Rule) -> bool
+    requires { ⌜ rule .len ≤ 16 ⌝ }
+    ensures { λ r. ⌜ r ≡ someOf (λ s. eqb (s .step) 5) (take (rule .len) (rule .steps)) ⌝ }
+{
+    let steps = rule.steps;
+    let n = rule.len;
+    let mut k: usize = 0;
+    while k < n {
+        let s = steps[k];
+        if s.step == 5 {
+            return true;
+        }
+        k += 1;
+    }
+    false
 }

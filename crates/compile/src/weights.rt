@@ -2,11 +2,31 @@
 ghost use mathlib.Core.Path.{_≡_};
 ghost use mathlib.Core.List.{map};
 ghost use Prim.Native.Nat.{ℕ, _+_, _<_, _^_};
-ghost use lib.ListN.{length};
+ghost use lib.ListN.{length, getD};
 ghost use Rattle.definitions.specs.Lists.{sum};
 ghost use Rattle.hierarchy.specs.Arrays.{ItemRange};
-ghost use Rattle.compile.specs.Weights.{itemIn, Ranged, arrays, Within, loadIn, roundTo, upTo, Fitting, greatest};
+ghost use Rattle.compile.specs.Weights.{itemIn, livePart, Ranged, arrays, Within, loadIn, roundTo, upTo, Fitting, greatest};
 use item::Item;
+
+// What a device adds to a live weight: one of acceptance 0 passes no test.
+fn live(acceptance: u32, weight: u32) -> u32
+    ensures { λ r. ⌜ r ≡ livePart acceptance weight ⌝ }
+{
+    if acceptance == 0 { 0 } else { weight }
+}
+
+// The live weights of the devices, by number.
+pub fn live_of<'a>(own: &'a [u32; 1024], acceptance: &'a [u32; 1024]) -> [u32; 1024]
+    ensures { λ r. ⌜ ((d : ℕ) → d < 1024 → getD r d 0 ≡ livePart (getD (now (acceptance .entry)) d 0) (getD (now (own .entry)) d 0)) ⌝ }
+{
+    let mut weights = [0u32; 1024];
+    let mut d: usize = 0;
+    while d < 1024 {
+        weights[d] = live(acceptance[d], own[d]);
+        d += 1;
+    }
+    weights
+}
 
 // The weight of an item: that of a device, or a bucket's load.
 fn weight_of<'a>(devices: &'a [u32], loads: &'a [u32], i: u32) -> u32

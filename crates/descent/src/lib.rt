@@ -111,8 +111,8 @@ fn alike<'a>(plan: &'a Plan, old: &'a Values, new: &'a Values, b: u32) -> bool
 {
     let k = wide(b);
     let a = hierarchy::CHILDREN + wide(plan[k]);
-    let n = wide(plan[hierarchy::COUNT + k]);
-    same_part(old, new, a, n)
+    let many = wide(plan[hierarchy::COUNT + k]);
+    same_part(old, new, a, many)
 }
 
 // The draw at bucket b by other values, where d is that by the old: it is made only where they do not weigh the children alike.

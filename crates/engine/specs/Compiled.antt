@@ -19,7 +19,7 @@ use Rattle.laws.specs.Loadable.{Loadable}
 use Rattle.laws.specs.Forest as forest
 use Rattle.text.specs.Agreement.{loaded-map}
 use Rattle.hierarchy.specs.declared.Rule.{Rule}
-use Rattle.hierarchy.specs.Arrays.{typesIn, bucketTypeIn, viewIn, Sound, actionsIn}
+use Rattle.hierarchy.specs.Arrays.{typesIn, bucketTypeIn, viewIn, Sound, Flagged, actionsIn}
 use Rattle.descent.specs.Descent as descent
 use Rattle.blocks.specs.Standing.{TypesOf}
 use Rattle.blocks.specs.Products.{emittedTo}
@@ -36,18 +36,20 @@ use Rattle.engine.specs.Calls.{place-0, daemon-0, fill-0}
 pub record Compiled (m : Map) (plan values : List ℕ) (rule : Rule) : Type 0 where
   pub view : viewIn plan values ≡ viewOf m
   pub sound : Sound plan
+  pub flagged : Flagged plan values
   pub actions : actionsIn rule ≡ actionsOf m
   pub len : rule .len ≡ length (actionsIn rule)
   pub few : rule .len ≤ 16
 
 -- from what `compile` ensures: the rule is read from map m, whose rule is that of m′
-pub compiled-from : (m m′ : Map) (plan values : List ℕ) (rule : Rule) → actionsOf m ≡ actionsOf m′ → viewIn plan values ≡ viewOf m′ → Sound plan
+pub compiled-from : (m m′ : Map) (plan values : List ℕ) (rule : Rule) → actionsOf m ≡ actionsOf m′ → viewIn plan values ≡ viewOf m′ → Sound plan → Flagged plan values
     → (actionsIn rule ≡ actionsOf m) × (rule .len ≡ length (m .steps)) × (rule .len ≤ 16) → Compiled m′ plan values rule
 unfolding actionsOf
-compiled-from m m′ plan values rule e v s r =
+compiled-from m m′ plan values rule e v s f r =
     record {
       view = v;
       sound = s;
+      flagged = f;
       actions = r .0 ∙ e;
       len = r .1 ∙ sym (ap (λ (l : List Action). length l) (r .0) ∙ length-map (m .steps) actionOf);
       few = r .2;
@@ -62,7 +64,7 @@ module _ (m : Map) (plan values : List ℕ) (rule : Rule) (L : Loadable m) (C : 
       ∙ ap (λ (v : View). v .type (bucketItem b)) (C .view) ∙ forest.type-bucket m b
 
   compiled-ready : Ready plan values (actionsIn rule)
-  compiled-ready = subst (Ready plan values) (sym (C .actions)) (ready m L plan values (C .sound) types-of (C .view))
+  compiled-ready = subst (Ready plan values) (sym (C .actions)) (ready m L plan values (C .sound) types-of (C .view) (C .flagged))
 
   compiled-width : emittedTo (actionsIn rule) (rule .len) ≡ widthOf m
   compiled-width =

@@ -13,7 +13,7 @@ use Rattle.definitions.specs.Edit.{put}
 use Rattle.definitions.specs.Calls.{independent, fits}
 use Rattle.laws.specs.Loadable.{Loadable, put-loadable, put-groups, put-actions, put-width}
 use Rattle.hierarchy.specs.declared.Rule.{Rule}
-use Rattle.hierarchy.specs.Arrays.{viewIn, Sound, actionsIn}
+use Rattle.hierarchy.specs.Arrays.{viewIn, Sound, Flagged, actionsIn}
 use Rattle.compile.specs.Tables.{Tabled}
 use Rattle.compile.specs.Reading.{no-edit}
 use Rattle.compile.specs.Weighing.{bucketWeight}
@@ -31,12 +31,12 @@ pub record Paired (m : Map) (c : Change) (p : Pair) : Type 0 where
 
 -- from what `weigh` ensures of each values, and `rule_of` of the rule
 pub paired : (m : Map) (c : Change) (plan old new loads : List ℕ) (rule : Rule) → viewIn plan old ≡ viewOf (put m Malformed) → viewIn plan new ≡ viewOf (put m c)
-    → Tabled loads 256 (bucketWeight (put m c)) → Sound plan → (actionsIn rule ≡ actionsOf m) × (rule .len ≡ length (m .steps)) × (rule .len ≤ 16)
+    → Tabled loads 256 (bucketWeight (put m c)) → Sound plan → Flagged plan old → Flagged plan new → (actionsIn rule ≡ actionsOf m) × (rule .len ≡ length (m .steps)) × (rule .len ≤ 16)
     → Paired m c (record { plan = plan; old = old; new = new; loads = loads; rule = rule })
-paired m c plan old new loads rule e e′ l s r =
+paired m c plan old new loads rule e e′ l s f f′ r =
     record {
-      old = compiled-from m m plan old rule refl (e ∙ ap viewOf (no-edit m)) s r;
-      new = compiled-from m (put m c) plan new rule (sym (put-actions m c)) e′ s r;
+      old = compiled-from m m plan old rule refl (e ∙ ap viewOf (no-edit m)) s f r;
+      new = compiled-from m (put m c) plan new rule (sym (put-actions m c)) e′ s f′ r;
       loads = l;
     }
 

@@ -49,8 +49,8 @@ pub struct Edited {
 // number.
 pub struct Pair {
     pub plan: [u32; 2305],
-    pub old: [u32; 2304],
-    pub new: [u32; 2304],
+    pub old: [u32; 2560],
+    pub new: [u32; 2560],
     pub loads: [u32; 256],
     pub rule: Rule,
 }
@@ -108,12 +108,13 @@ fn pair_of(map: &[u8], s: Shape, c: Change) -> Pair
     ensures { λ r. ⌜ Paired (mapOf (now (map .entry))) c r ⌝ }
 {
     let plan = compile::plan_of(map, s);
-    let before = compile::weigh(map, s, Change::Malformed, &plan);
+    let rule = steps::rule_of(map, s);
+    let through = steps::goes_through(rule);
+    let before = compile::weigh(map, s, Change::Malformed, &plan, through);
     let old = before.values;
-    let after = compile::weigh(map, s, c, &plan);
+    let after = compile::weigh(map, s, c, &plan, through);
     let new = after.values;
     let loads = after.loads;
-    let rule = steps::rule_of(map, s);
     Pair {
         plan: plan,
         old: old,

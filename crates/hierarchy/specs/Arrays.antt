@@ -1,4 +1,5 @@
 -- The view that the plan and the values give, and what must hold of them for a draw to read inside them and a descent to end.
+use mathlib.Core.Path.{_≡_}
 use mathlib.Core.Bool.{cond}
 use mathlib.Core.List.{List, map}
 use mathlib.Core.Logic.{_⊎_}
@@ -6,13 +7,15 @@ use Prim.Native.Nat.{ℕ, _+_, _<_, _≤_}
 use lib.ListN.{length, getD, take, drop}
 use Rattle.definitions.specs.declared.Action.{Action}
 use Rattle.definitions.specs.declared.Kind.{Kind}
-use Rattle.definitions.specs.Map.{isBucket, bucketNumber, actionOf}
+use Rattle.definitions.specs.declared.Ranked.{Ranked}
+use Rattle.definitions.specs.Map.{bucketItem, isBucket, bucketNumber, actionOf}
 use Rattle.definitions.specs.View.{View, kindFrom}
+use Rattle.definitions.specs.Walk.{hole, innerWalk}
 use Rattle.hierarchy.specs.declared.Rule.{Rule}
 use Rattle.hierarchy.specs.Sections.{section}
 use Rattle.hierarchy.specs.Sums.{weightsBy}
 
--- ---- where the sections begin: COUNT, TYPES, KINDS, CHILDREN and SEED of src/lib.rt, which has the same numbers
+-- ---- where the sections begin: COUNT, TYPES, KINDS, CHILDREN, SEED and LIVE of src/lib.rt, which has the same numbers
 
 abbrev pub countAt : ℕ
 countAt = 256
@@ -28,6 +31,9 @@ childrenAt = 1024
 
 abbrev pub seedAt : ℕ
 seedAt = 2304
+
+abbrev pub liveAt : ℕ
+liveAt = 2304
 
 -- ---- the plan
 
@@ -82,10 +88,17 @@ partOf plan b xs = partAt (firstsIn plan) (countsIn plan) b (childrenIn xs)
 abbrev pub childIn : List ℕ → ℕ → ℕ → ℕ
 childIn plan b j = getD (childrenIn plan) (firstIn plan b + j) 0
 
--- ---- the values: the acceptances of the devices
+-- ---- the values: the acceptances of the devices, and the live weights of the buckets
 
 abbrev pub acceptancesIn : List ℕ → List ℕ
 acceptancesIn values = section 0 1024 values
+
+abbrev pub livesIn : List ℕ → List ℕ
+livesIn values = section liveAt 256 values
+
+-- of bucket b
+abbrev pub liveIn : List ℕ → ℕ → ℕ
+liveIn values b = getD (livesIn values) b 0
 
 -- ---- both
 
@@ -111,6 +124,14 @@ pub record Sound (plan : List ℕ) : Type 0 where
   pub ranged : (b j : ℕ) → b < 256 → j < countIn plan b → ItemRange (childIn plan b j)
   pub falls : (b j : ℕ) → b < 256 → j < countIn plan b → typeIn plan (childIn plan b j) < bucketTypeIn plan b
   pub small : (b : ℕ) → b < 256 → bucketTypeIn plan b < 256
+
+-- an inner walk that gave up: fifty failures, and nothing found
+abbrev pub givenUp : Ranked
+givenUp = record { item = hole; entry = hole; fr = 50; f = 50; inner = 0 }
+
+-- a live weight of 0 marks a bucket beneath which every inner walk gives up, whatever is held
+pub record Flagged (plan values : List ℕ) : Type 0 where
+  pub dead : (b : ℕ) → b < 256 → liveIn values b ≡ 0 → (x n q : ℕ) (held : List ℕ) → innerWalk (viewIn plan values) x n held q (bucketItem b) .ranked ≡ givenUp
 
 -- ---- the rule
 

@@ -76,7 +76,7 @@ fn on_course(k: Course) -> Trials
 
 // What the two tests of item i come to, drawn with r' = q. Where neither run of a select through holds it, the inner walks are made at once
 // too.
-fn part_tests<'a, 'b, 'c>(
+pub fn part_tests<'a, 'b, 'c>(
     plan: &'a Plan,
     old: &'a Values,
     new: &'a Values,
@@ -112,7 +112,7 @@ fn part_tests<'a, 'b, 'c>(
 }
 
 // What the two tests of item i, drawn from bucket b, make of a turn of both.
-fn on_trials(start: u32, s: State, b: u32, i: u32, k: Trials) -> Round
+pub fn on_trials(start: u32, s: State, b: u32, i: u32, k: Trials) -> Round
     requires { ⌜ Going s × Short k ⌝ }
     ensures { λ u. ⌜ u ≡ onTrials start s b i k ⌝ }
 {

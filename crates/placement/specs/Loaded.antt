@@ -20,7 +20,7 @@ use Rattle.laws.specs.Lists.{every-at}
 use Rattle.laws.specs.Loadable.{Loadable, present-is, slim-is}
 use Rattle.laws.specs.Blocks.{InOrder, takes, selects, emits, length-actions, step-in-order, reached-inside}
 use Rattle.laws.specs.Found.{present-typed, drawn-present}
-use Rattle.hierarchy.specs.Arrays.{bucketTypeIn, typesIn, viewIn, Sound}
+use Rattle.hierarchy.specs.Arrays.{bucketTypeIn, typesIn, viewIn, Sound, Flagged}
 use Rattle.walk.specs.Searches.{Inward}
 use Rattle.blocks.specs.Actions.{ActionRanged, action-ranged}
 use Rattle.blocks.specs.Standing.{TypesOf}
@@ -75,8 +75,8 @@ width-is m L = (emitted-all m, slim-is m (L .slim) .width)
 
 -- arrays that give the view of a loadable map are ready
 pub ready : (m : Map) → Loadable m → (plan values : List ℕ) → Sound plan → TypesOf m (typesIn plan) → viewIn plan values ≡ viewOf m
-    → Ready plan values (actionsOf m)
-ready m L plan values sound of e = record { sound = sound; grounded = subst Grounded (sym e) (grounded m L); ruled = ruled m L plan of }
+    → Flagged plan values → Ready plan values (actionsOf m)
+ready m L plan values sound of e f = record { sound = sound; flagged = f; grounded = subst Grounded (sym e) (grounded m L); ruled = ruled m L plan of }
 
 -- and what is placed by them is the group's list and its tries
 pub placed-is : (m : Map) (x : ℕ) (v : View) (actions : List Action) (n : ℕ) → v ≡ viewOf m → actions ≡ actionsOf m → n ≡ length actions

@@ -8,7 +8,7 @@ use Rattle.definitions.specs.declared.Action.the-variants.{Take, Select, Emit, 
 use Rattle.definitions.specs.declared.Drawn.the-variants.{Winner}
 use Rattle.definitions.specs.View.{View}
 use Rattle.definitions.specs.Walk.{drawAt}
-use Rattle.hierarchy.specs.Arrays.{bucketTypeIn, viewIn, Sound}
+use Rattle.hierarchy.specs.Arrays.{bucketTypeIn, viewIn, Sound, Flagged}
 use Rattle.laws.specs.Blocks.{reached}
 use Rattle.walk.specs.Searches.{Inward}
 use Rattle.blocks.specs.Products.{productTo, emittedTo}
@@ -35,5 +35,6 @@ pub record Grounded (v : View) : Type 0 where
 -- what a run needs of the arrays and of the rule
 pub record Ready (plan values : List ℕ) (actions : List Action) : Type 0 where
   pub sound : Sound plan
+  pub flagged : Flagged plan values
   pub grounded : Grounded (viewIn plan values)
   pub ruled : Ruled plan actions

@@ -7,7 +7,7 @@ ghost use lib.Seq.{paste};
 ghost use Rattle.definitions.specs.View.{View};
 ghost use Rattle.definitions.specs.Walk.{hole};
 ghost use Rattle.laws.specs.Members.{Each};
-ghost use Rattle.hierarchy.specs.Arrays.{viewIn, Sound, actionsIn};
+ghost use Rattle.hierarchy.specs.Arrays.{viewIn, Sound, Flagged, actionsIn};
 ghost use Rattle.blocks.specs.Products.{emittedTo};
 ghost use Rattle.placement.specs.Bare.{bareAct, bareRunTo, filledUp};
 ghost use Rattle.placement.specs.Working.{Small};
@@ -65,7 +65,7 @@ fn selected<'a>(
     n: u32,
     t: u32,
 ) -> Progress
-    requires { ⌜ Sound (now plan) ⌝ }
+    requires { ⌜ Sound (now plan) × Flagged (now plan) (now values) ⌝ }
     requires { ⌜ Room p × (p .tries ≤ 1000000) × Doable p (Action.Select mode n t) ⌝ }
     ensures { λ q. ⌜ (runIn q ≡ bareAct (viewIn (now (plan .entry)) (now (values .entry))) x (runIn p) (Action.Select mode n t)) × Room q × Stepped p (Action.Select mode n t) q ⌝ }
 {
@@ -119,7 +119,7 @@ fn emit(p: Progress) -> Progress
 
 // One step more.
 pub fn act<'a>(plan: &'a Plan, values: &'a Values, x: u32, p: Progress, a: Action) -> Progress
-    requires { ⌜ Sound (now plan) ⌝ }
+    requires { ⌜ Sound (now plan) × Flagged (now plan) (now values) ⌝ }
     requires { ⌜ Room p × (p .tries ≤ 1000000) × Doable p a ⌝ }
     ensures { λ q. ⌜ (runIn q ≡ bareAct (viewIn (now (plan .entry)) (now (values .entry))) x (runIn p) a) × Room q × Stepped p a q ⌝ }
 {

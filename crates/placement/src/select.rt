@@ -4,7 +4,7 @@ ghost use Prim.Native.Nat.{_*_, _<_, _≤_};
 ghost use lib.ListN.{length, take};
 ghost use Rattle.definitions.specs.Load.{reaches};
 ghost use Rattle.laws.specs.Members.{Each};
-ghost use Rattle.hierarchy.specs.Arrays.{viewIn, Sound};
+ghost use Rattle.hierarchy.specs.Arrays.{viewIn, Sound, Flagged};
 ghost use Rattle.walk.specs.Searches.{Inward};
 ghost use Rattle.placement.specs.Bare.{leftOut, rankedUnder, bareSelect, filledUp};
 ghost use Rattle.placement.specs.Working.{Workable, Entry};
@@ -47,7 +47,7 @@ fn rank_under<'a, 'b>(
     held: &'b [u32],
     f: u32,
 ) -> Ranked
-    requires { ⌜ Sound (now plan) ⌝ }
+    requires { ⌜ Sound (now plan) × Flagged (now plan) (now values) ⌝ }
     requires { ⌜ (wanted .n ≤ 16) × (r ≤ 16) × Inward (wanted .mode) (wanted .t) × Workable a × (f ≤ 1000) ⌝ }
     ensures { λ k. ⌜ k ≡ rankedUnder (viewIn (now (plan .entry)) (now (values .entry))) x (wanted .mode) (wanted .n) (wanted .t) a r (now (held .entry)) f ⌝ }
     ensures bounds { λ k. ⌜ UnderBounds f k ⌝ }
@@ -95,7 +95,7 @@ pub fn select<'a, 'b>(
     len: usize,
     wanted: Wanted,
 ) -> Chosen
-    requires { ⌜ Sound (now plan) ⌝ }
+    requires { ⌜ Sound (now plan) × Flagged (now plan) (now values) ⌝ }
     requires { ⌜ length (now before) ≤ 32 ⌝ }
     requires { ⌜ (1 ≤ wanted .n) × (wanted .n ≤ 16) × (len * wanted .n ≤ 16) × Each Workable (take len working) × Inward (wanted .mode) (wanted .t) ⌝ }
     ensures { λ d. ⌜ (bareIn d ≡ bareSelect (viewIn (now (plan .entry)) (now (values .entry))) x (wanted .mode) (wanted .n) (wanted .t) (now (before .entry)) (take len working)) × (d .len ≤ len * wanted .n) × (d .tries ≤ 40800) ⌝ }

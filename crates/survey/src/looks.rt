@@ -112,7 +112,7 @@ fn together<'a>(
     x: u32,
     w: usize,
 ) -> Single
-    requires { ⌜ Runs (now plan) (now old) rule w ⌝ }
+    requires { ⌜ Runs (now plan) (now old) rule w × Runs (now plan) (now new) rule w ⌝ }
     ensures { λ r. ⌜ (r .one ≡ true → (take w (r .row) ≡ entriesOf (placesAt (now (plan .entry)) (now (old .entry)) rule w x))
         × (take w (r .row) ≡ entriesOf (placesAt (now (plan .entry)) (now (new .entry)) rule w x))) ⌝ }
 {

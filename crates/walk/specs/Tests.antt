@@ -1,18 +1,22 @@
 -- What the test of a search comes to, by its mode, and what a pass puts out. Assumes nothing.
-use mathlib.Core.Path.{_≡_, refl}
+use mathlib.Core.Path.{_≡_, refl, sym, subst}
 use mathlib.Core.Bool.{true, false}
 use mathlib.Core.List.{List}
-use mathlib.Core.Logic.{_⊎_}
-use Prim.Native.Nat.{ℕ}
+use mathlib.Core.Logic.{_⊎_, inl}
+use Prim.Native.Nat.{ℕ, _<_, _≤_}
+use native.Mathlib.Omega.{arith}
+use lib.Dec.{eqb}
+use borrow.Author.Tests.{eqb-true}
 use Rattle.definitions.specs.declared.Mode.the-variants.{FirstN, Independent, Through}
 use Rattle.definitions.specs.declared.Ranked.{Ranked}
 use Rattle.definitions.specs.declared.Tried.{Tried}
 use Rattle.definitions.specs.declared.Verdict.the-variants.{Held}
 use Rattle.definitions.specs.Lists.{has}
+use Rattle.definitions.specs.Map.{bucketItem, bucketNumber}
 use Rattle.definitions.specs.View.{View}
 use Rattle.definitions.specs.Load.{reaches}
 use Rattle.definitions.specs.Walk.{hole, verdictOf, plain, plainTest, innerWalk, found, sought, throughBy, throughTest, testOf, rankOf}
-use Rattle.hierarchy.specs.Arrays.{viewIn}
+use Rattle.hierarchy.specs.Arrays.{viewIn, liveIn, givenUp, Flagged}
 use Rattle.walk.specs.declared.Search.{Search}
 use Rattle.walk.specs.Searches.{innerSearch, reachedBy, testAt, rankAt}
 use Rattle.walk.specs.Bounds.{Typed, TriedBounds, plain-bounds, held-bounds, found-bounds}
@@ -42,3 +46,11 @@ module _ (plan values : List ℕ) (x : ℕ) (k : Search) (held : List ℕ) (q i 
         → (r .entry ≡ hole) ⊎ Typed plan 0 (r .entry) → w ≡ found r → Told
     unfolding testOf plainTest throughTest throughBy innerWalk sought reaches rankOf
     told-sought h r s b p = (rw (e, p, h, s), rw (e, p) (found-bounds plan 0 r b))
+
+    -- and beneath a bucket of live weight 0 it gives up
+    pub told-dead : has i held ≡ false → Flagged plan values → 65536 ≤ i → bucketNumber i < 256 → eqb (liveIn values (bucketNumber i)) 0 ≡ true → w ≡ found givenUp → Told
+    unfolding innerWalk rankOf testOf plainTest
+    told-dead h f l o z p =
+        let s : bucketItem (bucketNumber i) ≡ i = omega (arith, l) in
+        let g = f .dead (bucketNumber i) o (eqb-true _ 0 z) x (k .wanted .n) q held in
+        told-sought h givenUp (sym (subst (λ (j : ℕ). innerWalk v x (k .wanted .n) held q j .ranked ≡ givenUp) s g)) (inl refl) p

@@ -2,10 +2,12 @@
 // select through.
 ghost use mathlib.Core.Path.{_≡_};
 ghost use Prim.Native.Nat.{_<_, _≤_};
+ghost use lib.Dec.{eqb};
 ghost use Rattle.definitions.specs.Lists.{has};
 ghost use Rattle.definitions.specs.Hash.{hash2};
+ghost use Rattle.definitions.specs.Map.{bucketNumber};
 ghost use Rattle.definitions.specs.Walk.{accepts, accepted, verdictOf, plain, triesIn, found, failedTo, retryAt, onTried, rankEnd};
-ghost use Rattle.hierarchy.specs.Arrays.{viewIn, ItemRange, Sound};
+ghost use Rattle.hierarchy.specs.Arrays.{viewIn, liveIn, givenUp, ItemRange, Sound, Flagged};
 ghost use Rattle.walk.specs.Searches.{SearchBounds, innerSearch, reachedBy, tryAt, testAt, turnAt, rankAt};
 ghost use Rattle.walk.specs.Bounds.{Going, Testable, TriedBounds, TurnBounds, RankBounds};
 use definitions::Drawn;
@@ -143,6 +145,27 @@ pub fn found(k: Ranked) -> Tried
     }
 }
 
+// Has no device beneath item i both a weight and an acceptance above 0?
+pub fn is_dead(values: &Values, i: u32) -> bool
+    requires { ⌜ ItemRange i × (65536 ≤ i) ⌝ }
+    ensures { λ r. ⌜ r ≡ eqb (liveIn (now (values .entry)) (bucketNumber i)) 0 ⌝ }
+{
+    let bucket = Item::numbered(i);
+    let b = bucket.bucket_number() as usize;
+    values[hierarchy::LIVE + b] == 0
+}
+
+// The test of an item whose inner walk gives up: "it gives up after 50".
+pub fn given_up() -> Tried
+    ensures { λ w. ⌜ w ≡ found givenUp ⌝ }
+{
+    Tried {
+        verdict: Verdict::Rejected,
+        entry: HOLE,
+        inner: 50,
+    }
+}
+
 // The inner walk beneath item i, which r' = q drew: "It begins at the item with the r' that drew it, each inner failure adds n".
 pub fn inner(n: u32, q: u32, i: u32) -> Search
     requires { ⌜ 65536 ≤ i ⌝ }
@@ -212,6 +235,7 @@ pub fn on_tried(start: u32, s: State, b: u32, i: u32, w: Tried) -> Turn
 }
 
 // The test of item i, drawn with r' = q. A select through looks beneath an item that it does not hold by an inner walk, which is a rank too.
+// Where that walk can only give up, it is not made.
 fn test<'a, 'b>(
     plan: &'a Plan,
     values: &'a Values,
@@ -221,7 +245,7 @@ fn test<'a, 'b>(
     q: u32,
     i: u32,
 ) -> Tried
-    requires { ⌜ Sound (now plan) ⌝ }
+    requires { ⌜ Sound (now plan) × Flagged (now plan) (now values) ⌝ }
     requires { ⌜ Testable (now plan) search q i ⌝ }
     ensures { λ w. ⌜ w ≡ testAt (viewIn (now (plan .entry)) (now (values .entry))) x search (now (held .entry)) q i .tried ⌝ }
     ensures bounds { λ w. ⌜ TriedBounds (now (plan .entry)) (reachedBy search) w ⌝ }
@@ -234,6 +258,9 @@ fn test<'a, 'b>(
         Mode::Through => {
             if holds(held, i) {
                 return plain(i, Verdict::Held);
+            }
+            if is_dead(values, i) {
+                return given_up();
             }
             let beneath = inner(wanted.n, q, i);
             let k = rank(plan, values, x, beneath, held, 0);
@@ -251,7 +278,7 @@ fn turn<'a, 'b>(
     held: &'b [u32],
     s: State,
 ) -> Turn
-    requires { ⌜ Sound (now plan) ⌝ }
+    requires { ⌜ Sound (now plan) × Flagged (now plan) (now values) ⌝ }
     requires { ⌜ SearchBounds search × (s .at < 256) × Going s ⌝ }
     ensures { λ k. ⌜ k ≡ turnAt (viewIn (now (plan .entry)) (now (values .entry))) x search (now (held .entry)) s .turn ⌝ }
     ensures bounds { λ k. ⌜ TurnBounds (now (plan .entry)) (reachedBy search) k ⌝ }
@@ -294,7 +321,7 @@ pub fn rank<'a, 'b>(
     held: &'b [u32],
     f0: u32,
 ) -> Ranked
-    requires { ⌜ Sound (now plan) ⌝ }
+    requires { ⌜ Sound (now plan) × Flagged (now plan) (now values) ⌝ }
     requires { ⌜ SearchBounds search × (f0 ≤ 1000) ⌝ }
     ensures { λ k. ⌜ k ≡ rankAt (viewIn (now (plan .entry)) (now (values .entry))) x search (now (held .entry)) f0 .ranked ⌝ }
     ensures bounds { λ k. ⌜ RankBounds (now (plan .entry)) (reachedBy search) f0 k ⌝ }

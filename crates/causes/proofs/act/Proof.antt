@@ -13,10 +13,10 @@ lengths : (c : tie.After-act) → (length (c .act .result .working) ≡ 16) × (
 lengths c = (search (needs, c .act .ok), search (needs, c .act .ok))
 
 act-requires : tie.Need-act-requires
-act-requires c κs = search needs
+act-requires c κs = let p = c .before .before .pre in ((p .0 .0, p .1 .0), search needs)
 
 act-requires-2 : tie.Need-act-requires-2
-act-requires-2 c κs = search needs
+act-requires-2 c κs = let p = c .before .before .before .pre in ((p .0 .0, p .1 .1), search needs)
 
 worked-requires : tie.Need-worked-requires
 worked-requires c κs = search needs

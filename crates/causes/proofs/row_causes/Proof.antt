@@ -73,7 +73,8 @@ act-requires c κs =
     let r = s .pre .1 .0 in
     let r′ = s .pre .1 .1 in
     let h : l .k < length (actions s) = omega (arith, length-actions (s .args .rule) (within s), i .loop-test .taken) in
-    (r .sound, able r r′ (s .pre .0 .1) (s .args .x) (l .k) (l .p) (c .action-of .result) h (omega (arith, l .inv .0, s .pre .0 .0)) (told c) (l .inv .1))
+    let d = able r r′ (s .pre .0 .1) (s .args .x) (l .k) (l .p) (c .action-of .result) h (omega (arith, l .inv .0, s .pre .0 .0)) (told c) (l .inv .1) in
+    ((r .sound, d), (r .flagged, r′ .flagged))
 
 add-k : tie.Need-add-k Inv-loop μ-loop
 add-k c = omega (arith, begin (c .before .before .before) .pre .0 .0)

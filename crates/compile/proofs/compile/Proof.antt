@@ -27,22 +27,27 @@ reads-new s = readable (s .args .t .now) (s .args .s) (new s) (s .pre .0) (s .pr
 plan-of-requires : tie.Need-plan-of-requires
 plan-of-requires c κs = reads-old (c .before)
 
-weigh-requires : tie.Need-weigh-requires
-weigh-requires c κs = (reads-new (c .before .before .before), c .before .plan-of .ensures)
-
 rule-of-requires : tie.Need-rule-of-requires
-rule-of-requires c κs = reads-old (c .before .before .before .before .before)
+rule-of-requires c κs = reads-old (c .before .before)
+
+goes-through-requires : tie.Need-goes-through-requires
+goes-through-requires c κs = c .before .rule-of .ensures .2
+
+weigh-requires : tie.Need-weigh-requires
+weigh-requires c κs = let p = c .before .before .before in (reads-new (p .before .before), p .plan-of .ensures)
 
 returns : tie.Need-returns
 returns c =
-    let v = c .before .before .weigh .ensures in
-    (v .0, (v .1 .1, c .rule-of .ensures))
+    let w = c .before in
+    let v = w .weigh .ensures in
+    (v .0, (v .1 .1 .0, (v .1 .1 .1, w .before .before .before .rule-of .ensures)))
 
 pub compile-spec : {M : Type 1} → statement M
 compile-spec =
     tie.close
     (tie.spec
     plan-of-requires
-    weigh-requires
     rule-of-requires
+    goes-through-requires
+    weigh-requires
     returns)

@@ -19,10 +19,14 @@ values-of-requires : tie.Need-values-of-requires
 values-of-requires c κs = search needs
 
 returns : tie.Need-returns
-returns c m w l a =
+returns c =
     let o = c .values-of .ensures in
-    let s = c .before .before in
-    view-is m (w .loadable) (w .planned) _ (rw (o .0) a) (λ b. rw (o .1) (s .words-of .ensures b ∙ rw (s .before .weigh-children .ensures m w l b)))
+    let s = c .before .before in (
+      λ m w l a.
+          view-is m (w .loadable) (w .planned) _ (rw (o .0) a)
+          (λ b. rw (o .1) (s .words-of .ensures b ∙ rw (s .before .weigh-children .ensures m w l b))),
+      o .2,
+    )
 
 pub values-of-spec : {M : Type 1} → statement M
 values-of-spec = tie.close (tie.spec weigh-children-requires words-of-requires values-of-requires returns)

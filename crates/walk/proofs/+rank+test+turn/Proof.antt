@@ -2,6 +2,7 @@
 -- an inner walk, which is a rank of an independent search: the measure falls from `rank` to `turn` to `test`, and from the test of a select
 -- through to the rank of an independent one. Assumes nothing.
 use mathlib.Core.Path.{_≡_, refl, sym, ap, _∙_, subst}
+use mathlib.Core.Bool.{false}
 use mathlib.Core.Logic.{_⊎_, inl, inr}
 use Prim.Native.Nat.{ℕ, _+_, _-_, _*_, _<_, _≤_}
 use native.Mathlib.Omega.{arith}
@@ -9,6 +10,7 @@ use borrow.Author.Needs.{needs}
 use Rattle.definitions.specs.declared.Mode.{Mode}
 use Rattle.definitions.specs.declared.Mode.the-variants.{Independent, Through}
 use Rattle.definitions.specs.declared.State.{State}
+use Rattle.definitions.specs.Lists.{has}
 use Rattle.definitions.specs.View.{View}
 use Rattle.definitions.specs.Walk.{hole, descend, rankStart, rankBy, rankOf}
 use Rattle.definitions.specs.Load.{reaches}
@@ -20,7 +22,7 @@ use Rattle.descent.specs.Descent.{typed-bucket, bucket-below}
 use Rattle.walk.specs.declared.Search.{Search}
 use Rattle.walk.specs.Searches.{inward, reachedBy, tryAt, testAt, turnAt, rankAt}
 use Rattle.walk.specs.Bounds.{Typed, try-most, fill-adds, fail-adds, failed-bounds, tried-bounds, end-bounds}
-use Rattle.walk.specs.Tests.{told-first, told-independent, told-held, told-sought}
+use Rattle.walk.specs.Tests.{told-first, told-independent, told-held, told-sought, told-dead}
 use borrow.Fn.Kinds.{In}
 use borrow.Fn.PlainCycle.{Measures, is, falls, and}
 use Rattle.walk.proofs.rank.Reads as rank
@@ -36,8 +38,10 @@ use Rattle.descent.proofs.descend.Reads as descend-reads
 use Rattle.descent.proofs.type_of.Reads as type-of-reads
 use Rattle.walk.proofs.failed_to.Reads as failed-to-reads
 use Rattle.walk.proofs.found.Reads as found-reads
+use Rattle.walk.proofs.given_up.Reads as given-up-reads
 use Rattle.walk.proofs.holds.Reads as holds-reads
 use Rattle.walk.proofs.inner.Reads as inner-reads
+use Rattle.walk.proofs.is_dead.Reads as is-dead-reads
 use Rattle.walk.proofs.on_tried.Reads as on-tried-reads
 use Rattle.walk.proofs.plain.Reads as plain-reads
 use Rattle.walk.proofs.plain_test.Reads as plain-test-reads
@@ -203,6 +207,10 @@ test-gs t = (
   holds-reads.Learnt,
   plain-reads.Asked,
   plain-reads.Learnt,
+  is-dead-reads.Asked,
+  is-dead-reads.Learnt,
+  given-up-reads.Asked,
+  given-up-reads.Learnt,
   inner-reads.Asked,
   inner-reads.Learnt,
   rank-below t,
@@ -218,7 +226,7 @@ not-through : _≡_ {A = Mode} Independent Through → ⊥
 not-through e = let z : _≡_ {A = ℕ} 0 1 = cc in omega arith
 
 module _ (t : ℕ) where
-  -- an item that is not held, where an inner walk is to be made
+  -- an item that is not held
   abbrev Free : Type 0
   Free = test-lts.Else1 (test-gs t) (test-at t) test.Post
 
@@ -227,6 +235,9 @@ module _ (t : ℕ) where
 
   through : (c : Free) → origin c .args .search .wanted .mode ≡ Through
   through c = c .before .before .enum-told3 .given .1
+
+  free : (c : Free) → let a = origin c .args in has (a .i) (a .held .now) ≡ false
+  free c = sym (c .before .holds .ensures) ∙ c .if1 .left
 
   -- it has a type above 0, so it is a bucket's
   bucket : (c : Free) → 65536 ≤ origin c .args .i
@@ -263,12 +274,27 @@ module _ (t : ℕ) where
       told-held (a .plan .now) (a .values .now) (a .x) (a .search) (a .held .now) (a .q) (a .i) (c .plain .result) (h .before .before .enum-told3 .given .1)
       (sym (h .before .holds .ensures) ∙ h .if1 .taken) (c .plain .ensures)
 
+  test-is-dead-requires : test-lts.Need-is-dead-requires (test-gs t) (test-at t) test.Post
+  test-is-dead-requires c κs = (origin c .pre .1 .1 .3 .0, bucket c)
+
+  test-given-up-requires : test-lts.Need-given-up-requires (test-gs t) (test-at t) test.Post
+  test-given-up-requires c κs = search needs
+
+  test-returns-2 : test-lts.Need-returns-2 (test-gs t) (test-at t) test.Post
+  test-returns-2 c =
+      let d = c .before .before in
+      let e = d .before in
+      let s = origin e in
+      let a = s .args in
+      told-dead (a .plan .now) (a .values .now) (a .x) (a .search) (a .held .now) (a .q) (a .i) (c .given-up .result) (through e)
+      (free e) (s .pre .1 .0 .1) (bucket e) (bucket-below (a .i) (s .pre .1 .1 .3 .0) (bucket e)) (sym (d .is-dead .ensures) ∙ c .before .if2 .taken) (c .given-up .ensures)
+
   test-inner-requires : test-lts.Need-inner-requires (test-gs t) (test-at t) test.Post
-  test-inner-requires c κs = bucket c
+  test-inner-requires c κs = bucket (c .before .before)
 
   test-rank-requires : test-lts.Need-rank-requires (test-gs t) (test-at t) test.Post
   test-rank-requires c κs =
-      let e = c .before in
+      let e = c .before .before .before in
       let s = origin e in
       let p = s .pre .1 .1 in
       rw (c .inner .ensures) (
@@ -282,28 +308,28 @@ module _ (t : ℕ) where
   test-found-requires : test-lts.Need-found-requires (test-gs t) (test-at t) test.Post
   test-found-requires c κs = let b = c .rank .ensures .1 in (b .0, b .2)
 
-  test-returns-2 : test-lts.Need-returns-2 (test-gs t) (test-at t) test.Post
-  test-returns-2 c =
+  test-returns-3 : test-lts.Need-returns-3 (test-gs t) (test-at t) test.Post
+  test-returns-3 c =
       let s = c .before .before .before .before .before in
       let a = s .args in
       told-first (a .plan .now) (a .values .now) (a .x) (a .search) (a .held .now) (a .q) (a .i) (c .plain-test .result) (c .before .enum-told .given .1)
       (s .pre .1 .1 .3) (c .plain-test .ensures)
 
-  test-returns-3 : test-lts.Need-returns-3 (test-gs t) (test-at t) test.Post
-  test-returns-3 c =
+  test-returns-4 : test-lts.Need-returns-4 (test-gs t) (test-at t) test.Post
+  test-returns-4 c =
       let s = c .before .before .before .before .before in
       let a = s .args in
       told-independent (a .plan .now) (a .values .now) (a .x) (a .search) (a .held .now) (a .q) (a .i) (c .plain-test2 .result) (c .before .enum-told2 .given .1)
       (s .pre .1 .1 .3) (c .plain-test2 .ensures)
 
-  test-returns-4 : test-lts.Need-returns-4 (test-gs t) (test-at t) test.Post
+  test-returns-5 : test-lts.Need-returns-5 (test-gs t) (test-at t) test.Post
   unfolding reaches
-  test-returns-4 c =
+  test-returns-5 c =
       let r = c .before in
-      let e = r .before .before in
+      let e = r .before .before .before .before in
       let a = origin e .args in
       told-sought (a .plan .now) (a .values .now) (a .x) (a .search) (a .held .now) (a .q) (a .i) (c .found .result) (through e)
-      (sym (e .before .holds .ensures) ∙ e .if1 .left) (r .rank .result)
+      (free e) (r .rank .result)
       (r .rank .ensures .0 ∙ ap (λ (k : Search). rankAt (viewIn (a .plan .now) (a .values .now)) (a .x) k (a .held .now) 0 .ranked) (r .before .inner .ensures))
       (subst (λ (k : Search). (r .rank .result .entry ≡ hole) ⊎ Typed (a .plan .now) (reachedBy k) (r .rank .result .entry)) (r .before .inner .ensures) (r .rank .ensures .1 .3))
       (c .found .ensures)
@@ -468,12 +494,15 @@ pub +rank+test+turn-spec : {M : Type 1} → statement M
     (test-holds-requires t)
     (test-plain-requires t)
     (test-returns t)
+    (test-is-dead-requires t)
+    (test-given-up-requires t)
+    (test-returns-2 t)
     (test-inner-requires t)
     (test-rank-requires t)
     (test-found-requires t)
-    (test-returns-2 t)
     (test-returns-3 t)
-    (test-returns-4 t))
+    (test-returns-4 t)
+    (test-returns-5 t))
     (λ t.
     turn-lts.spec
     (turn-gs t)

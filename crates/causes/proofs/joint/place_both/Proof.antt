@@ -24,7 +24,7 @@ returns c e = absurd (false≢true e)
 within : (c : tie.Else1) → c .before .run .result .run .emitted ≤ length (c .before .run .result .run .list)
 within c =
     let k = c .before .run in
-    let w : length (k .result .run .list) ≡ 32 = search (needs, k .ok .0 .1) in
+    let w : length (k .result .run .list) ≡ 32 = search needs in
     omega (arith, w, k .ensures (c .if1 .left) .2)
 
 array-share-prefix-list : tie.Need-array-share-prefix-list

@@ -27,8 +27,8 @@ bucket-number-requires c κs =
     let s = e .before .before in
     omega (arith, c .numbered .ensures, bucket-of (s .args .a) (s .pre .1 .3) (e .if1 .left) .0)
 
-part-rank-requires : tie.Need-part-rank-requires
-part-rank-requires c κs =
+rank-ends-requires : tie.Need-rank-ends-requires
+rank-ends-requires c κs =
     let e = c .before .before in
     let s = e .before .before in
     let p = s .pre .1 in
@@ -40,8 +40,8 @@ returns-2 c =
     let b = c .before in
     let e = b .before .before in
     let a = e .before .before .args in
-    shares-rank (viewIn (a .plan .now) (a .old .now)) (viewIn (a .plan .now) (a .new .now)) (a .x) (a .wanted) (a .a) (a .r) (a .held .now) (a .f) _ (c .part-rank .result) (e .if1 .left) (number b) (c .part-rank .ensures)
+    shares-rank (viewIn (a .plan .now) (a .old .now)) (viewIn (a .plan .now) (a .new .now)) (a .x) (a .wanted) (a .a) (a .r) (a .held .now) (a .f) _ (c .rank-ends .result) (e .if1 .left) (number b) (c .rank-ends .ensures)
 
 pub rank-under-spec : {M : Type 1} → statement M
 rank-under-spec =
-    tie.close (tie.spec returns numbered-requires bucket-number-requires part-rank-requires returns-2)
+    tie.close (tie.spec returns numbered-requires bucket-number-requires rank-ends-requires returns-2)

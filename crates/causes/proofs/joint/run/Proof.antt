@@ -66,7 +66,7 @@ act-requires c κs =
     let s = begin i in
     let r = s .pre .1 in
     let h : l .k < length (actionsIn (s .args .rule)) = omega (arith, length-actions (s .args .rule) (within s), i .loop-test .taken) in
-    (r .sound, (l .inv .1 .room, omega (arith, l .inv .1 .tries, l .inv .0, s .pre .0), doable r (s .args .x) (l .k) (l .p) (c .action-of .result) h (told c) (l .inv .1)))
+    ((r .sound, r .flagged, s .pre .2), (l .inv .1 .room, omega (arith, l .inv .1 .tries, l .inv .0, s .pre .0), doable r (s .args .x) (l .k) (l .p) (c .action-of .result) h (told c) (l .inv .1)))
 
 returns : tie.Need-returns Inv-loop μ-loop
 returns c e = absurd (false≢true (sym e ∙ c .if1 .taken))

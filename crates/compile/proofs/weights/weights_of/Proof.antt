@@ -47,7 +47,7 @@ loop-again c =
     let s = c .before .before .before .before .before .before .before in (
       search needs,
       length-set (l .weights) (l .i) (c .weight-of .result) ∙ l .inv .1,
-      filled-more (itemIn (s .args .devices .now) (s .args .loads .now)) (s .args .items .now) (l .weights) (l .i) (l .inv .2)
+      filled-more (λ (j : ℕ). itemIn (s .args .devices .now) (s .args .loads .now) (getD (s .args .items .now) j 0)) (l .weights) (l .i) (l .inv .2)
           (c .weight-of .result) (omega arith) (c .weight-of .ensures),
     )
 

@@ -21,26 +21,31 @@ reads-new s =
 plan-of-requires : tie.Need-plan-of-requires
 plan-of-requires c κs = reads-old (c .before)
 
+rule-of-requires : tie.Need-rule-of-requires
+rule-of-requires c κs = reads-old (c .before .before)
+
+goes-through-requires : tie.Need-goes-through-requires
+goes-through-requires c κs = c .rule-of .ensures .2
+
 weigh-requires : tie.Need-weigh-requires
 weigh-requires c κs =
-    let s = c .before .before .before in (rw (no-edit (old s)) (reads-old s), c .before .plan-of .ensures)
+    let p = c .before .before .before in
+    let s = p .before .before in
+    (rw (no-edit (old s)) (reads-old s), p .plan-of .ensures)
 
 weigh-requires-2 : tie.Need-weigh-requires-2
-weigh-requires-2 c κs =
-    let k = c .before .before .before .before in (reads-new (k .before .before), k .plan-of .ensures)
-
-rule-of-requires : tie.Need-rule-of-requires
-rule-of-requires c κs = reads-old (c .before .before .before .before .before .before .before .before .before)
+weigh-requires-2 c κs = let p = c .before .before .before .before .before .before in (reads-new (p .before .before), p .plan-of .ensures)
 
 returns : tie.Need-returns
 returns c =
-    let n = c .before .before .before in
+    let n = c .before .before in
     let o = n .before .before .before in
-    let s = o .before .before .before .before in
+    let r = o .before .before .before in
+    let s = r .before .before .before in
     let w = o .weigh .ensures in
     let v = n .weigh2 .ensures in
-    paired (old s) (s .args .c) _ _ _ _ _ (w .0) (v .0) (v .1 .0) (w .1 .1) (c .rule-of .ensures)
+    paired (old s) (s .args .c) _ _ _ _ _ (w .0) (v .0) (v .1 .0) (w .1 .1 .0) (w .1 .1 .1) (v .1 .1 .1) (r .rule-of .ensures)
 
 pub pair-of-spec : {M : Type 1} → statement M
 pair-of-spec =
-    tie.close (tie.spec plan-of-requires weigh-requires weigh-requires-2 rule-of-requires returns)
+    tie.close (tie.spec plan-of-requires rule-of-requires goes-through-requires weigh-requires weigh-requires-2 returns)

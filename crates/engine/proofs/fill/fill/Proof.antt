@@ -31,7 +31,7 @@ small c =
 -- the arrays are the map's own
 compiled : (c : tie.After-compile)
     → let h = c .compile .result in Compiled (mapOf (c .before .before .before .before .before .before .before .before .before .args .map .now)) (h .plan) (h .values) (h .rule)
-compiled c = let e = c .compile .ensures in compiled-from _ _ _ _ _ refl (e .0 ∙ ap viewOf (no-edit _)) (e .1 .0) (e .1 .1)
+compiled c = let e = c .compile .ensures in compiled-from _ _ _ _ _ refl (e .0 ∙ ap viewOf (no-edit _)) (e .1 .0) (e .1 .1 .0) (e .1 .1 .1)
 
 load-requires : tie.Need-load-requires
 load-requires c κs = search needs

@@ -27,7 +27,7 @@ start c = c .before .before .before
 
 -- the arrays are the map's own
 compiled : (c : tie.After-compile) → let h = c .compile .result in Compiled (mapOf (start c .args .map .now)) (h .plan) (h .values) (h .rule)
-compiled c = let e = c .compile .ensures in compiled-from _ _ _ _ _ refl (e .0 ∙ ap viewOf (no-edit _)) (e .1 .0) (e .1 .1)
+compiled c = let e = c .compile .ensures in compiled-from _ _ _ _ _ refl (e .0 ∙ ap viewOf (no-edit _)) (e .1 .0) (e .1 .1 .0) (e .1 .1 .1)
 
 -- they can be run, for rows W wide
 runs : (c : tie.After-compile) → let h = c .compile .result in Runs (h .plan) (h .values) (h .rule) (start c .args .w)

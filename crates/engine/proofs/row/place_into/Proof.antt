@@ -19,7 +19,7 @@ loadable : (c : tie.After-compile) → Loadable (mapOf (c .before .before .befor
 loadable c = loaded-map _ (c .before .before .before .pre .0)
 
 compiled : (c : tie.After-compile) → let h = c .compile .result in Compiled (mapOf (c .before .before .before .args .map .now)) (h .plan) (h .values) (h .rule)
-compiled c = let e = c .compile .ensures in compiled-from _ _ _ _ _ refl (e .0 ∙ ap viewOf (no-edit _)) (e .1 .0) (e .1 .1)
+compiled c = let e = c .compile .ensures in compiled-from _ _ _ _ _ refl (e .0 ∙ ap viewOf (no-edit _)) (e .1 .0) (e .1 .1 .0) (e .1 .1 .1)
 
 compile-requires : tie.Need-compile-requires
 compile-requires c κs = let s = c .before .before in (s .pre .0, (s .pre .1, rw (no-edit _) (loaded-map _ (s .pre .0))))

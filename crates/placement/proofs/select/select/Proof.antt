@@ -275,7 +275,7 @@ returns c =
     let q = to-all _ _ _ _ _ _ (a .t5) (a .len) (l .i) _ e (within s) (l .inv .1) in (
       (q, omega (arith, m, l .inv .2), omega (arith, m, l .inv .3, s .pre .1 .1 .2)),
       subst (λ (b : Bare). Each (Entry (a .plan .now) (reaches (k .mode) (k .t))) (b .entries)) (sym q)
-          (select-entries (s .pre .0) (a .values .now) (a .x) (k .mode) (k .n) (k .t) (a .before .now) (take (a .len) (a .t5))),
+          (select-entries (s .pre .0 .0) (a .values .now) (a .x) (k .mode) (k .n) (k .t) (a .before .now) (take (a .len) (a .t5))),
     )
 
 pub select-spec : {M : Type 1} → statement M
