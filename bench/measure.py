@@ -21,6 +21,13 @@ class Ratio(float):
         return f"{self:.2f}"
 
 
+class Rate(float):
+    """Mappings a second."""
+
+    def __str__(self):
+        return f"{self / 1e3:,.0f} k"
+
+
 class Time(float):
     """Nanoseconds."""
 
@@ -67,6 +74,7 @@ def compared(folder, rounds, libcrush):
     ratios = [["plain C / engine", "load", "place", "fill", "fill*", "edit 21", "edit 22", "ceiling", "hash"] + ["libcrush"] * libcrush]
     times = [["the engine's own times", "load", "place", "fill", "edit 21", "edit 22", "ceiling", "hash"]]
     fills = [["in fills of the engine", "edit 21", "edit 22", "ceiling", "moves 21", "moves 22"]]
+    rates = [["mappings a second", "engine", "libcrush"]]
     filled, holes, shares = {}, [], []
     for name, title, text in [*maps.COMPARED, maps.BLOCKS]:
         got = run(folder, ["bench", "all"], name, text(), rounds)
@@ -78,6 +86,8 @@ def compared(folder, rounds, libcrush):
             theirs = run(folder, ["libcrush"], name, text(), rounds)
             ratios[-1].append(ratio(theirs["libcrush"]) if theirs else "-")
             holes.append(theirs.get("holes", (0, 0)))
+            if theirs:
+                rates.append([title] + [Rate(int(text()[2:10], 16) * 1e9 / took) for took in theirs["libcrush"]])
         times.append([title] + [Time(pair[0]) for pair in columns])
         shares.append([Ratio(got[call][0] / got["fill"][0]) for call in BUDGETS])
         ceiling = Ratio(got["ceiling"][0] / got["fill"][0])
@@ -88,6 +98,7 @@ def compared(folder, rounds, libcrush):
         dead.append([title] + [Ratio(a / b) for a, b in zip(filled[name], filled["through"])])
     tables = [ratios, times, fills, dead]
     if libcrush:
+        tables.append(rates)
         tables.append([["holes in all lists", "engine", "libcrush"], ["maps that libcrush has"] + [f"{sum(n):.0f}" for n in zip(*holes)]])
     return tables, shares
 
