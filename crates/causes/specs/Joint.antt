@@ -1,7 +1,6 @@
 -- Two runs made at once, as long as their walks are one. Assumes nothing.
 use mathlib.Core.Path.{_≡_, refl, ap}
 use mathlib.Core.List.{List}
-use mathlib.Core.Logic.{⊎-elim}
 use Prim.Native.Nat.{ℕ, zero, suc, _+_, _<_, _≤_}
 use native.Mathlib.Omega.{arith}
 use Rattle.definitions.specs.declared.Action.{Action}
@@ -14,7 +13,7 @@ use Rattle.definitions.specs.declared.Ranked.{Ranked}
 use Rattle.definitions.specs.Map.{bucketNumber}
 use Rattle.definitions.specs.View.{View}
 use Rattle.definitions.specs.Walk.{hole, Trial, RankEvents, rankStart, rankEnd, onward, afterTurn, onTurn, turnOf, rankFrom, rankBy, testOf, rankOf}
-use Rattle.laws.specs.Fuel.{turn-fails, rank-ends}
+use Rattle.laws.specs.Fuel.{turn-fails}
 use Rattle.laws.specs.Tries.{rank-inner}
 use Rattle.walk.specs.declared.Wanted.{Wanted}
 use Rattle.placement.specs.declared.rule.Progress.{Progress}
@@ -23,6 +22,7 @@ use Rattle.placement.specs.Chosen.{UnderBounds, hole-ranked, hole-bounds, bucke
 use Rattle.placement.specs.Progress.{Acted}
 use Rattle.lockstep.specs.declared.Course.{Course}
 use Rattle.lockstep.specs.declared.Course.the-variants.{Forked, Shared}
+use Rattle.lockstep.specs.Rounds.{rank-failures}
 use Rattle.causes.specs.Ends.{RankEnds}
 
 -- what holds of the end of two ranks, where they are one
@@ -56,10 +56,6 @@ module _ (v : View) (x : ℕ) (mode : Mode) (n t : ℕ) (held : List ℕ) (b r f
   unfolding rankOf rankBy rankStart
   rank-f = from-f v x mode n t (testOf mode v x n held) b r 50 (rankStart b f)
 
-  rank-fr : rankOf v x mode n t held b r f .ranked .fr ≤ 50
-  unfolding rankOf rankBy rankStart
-  rank-fr = ⊎-elim (λ h. omega (arith, h)) (λ h. omega (arith, h .1)) (rank-ends v x mode n t (testOf mode v x n held) b r 50 (rankStart b f))
-
 -- ---- a rank of both
 
 module _ (v w : View) (x : ℕ) (s : Wanted) (a r : ℕ) (held : List ℕ) (f : ℕ) where
@@ -74,7 +70,7 @@ module _ (v w : View) (x : ℕ) (s : Wanted) (a r : ℕ) (held : List ℕ) (f : 
     bucket-ranked v x (s .mode) (s .n) (s .t) a r held f b k e i h,
     bucket-ranked w x (s .mode) (s .n) (s .t) a r held f b k e j h,
     (
-      omega (arith, ap (λ (u : Ranked). u .fr) i, rank-fr v x (s .mode) (s .n) (s .t) held b r f),
+      omega (arith, ap (λ (u : Ranked). u .fr) i, rank-failures v x (record { wanted = s; start = b; r = r }) held f),
       omega (arith, ap (λ (u : Ranked). u .f) i, rank-f v x (s .mode) (s .n) (s .t) held b r f),
       omega (arith, ap (λ (u : Ranked). u .inner) i, rank-inner v x (s .n) held (s .mode) (s .t) b r f),
       bucket-tries v x (s .mode) (s .n) (s .t) a r held f b k e i,

@@ -68,7 +68,8 @@ abbrev pub Short : Trials → Type 0
 Short (Split p) = Unit {0}
 Short (Agreed w) = w .inner ≤ 50
 
-rank-failures : (v : View) (x : ℕ) (k : Search) (held : List ℕ) (f₀ : ℕ) → rankAt v x k held f₀ .ranked .fr ≤ 50
+-- a rank fails at most fifty times
+pub rank-failures : (v : View) (x : ℕ) (k : Search) (held : List ℕ) (f₀ : ℕ) → rankAt v x k held f₀ .ranked .fr ≤ 50
 unfolding rankOf rankBy rankStart
 rank-failures v x k held f₀ =
     ⊎-elim (λ h. omega arith) (λ h. omega (arith, h .1))
