@@ -78,6 +78,21 @@ roomForMoves moves space = leb (23 * length moves) (length space)
 unfoldable pub loadOf : List ℕ → ℕ
 loadOf frames = loadNumber frames
 
+-- ---- the sizes of a map, asked with load: by its groups and its width a caller knows how large a table he has to lend
+
+pub record SizesAnswer : Type 0 where
+  pub number : ℕ
+  pub groups : ℕ
+  pub places : ℕ
+
+-- load's number decides: of a good map its groups and its width W, else zeros
+unfoldable pub sizesBy : Map → ℕ → SizesAnswer
+sizesBy m zero = record { number = 0; groups = m .groups; places = widthOf m }
+sizesBy m (suc k) = record { number = suc k; groups = 0; places = 0 }
+
+unfoldable pub sizesOf : List ℕ → SizesAnswer
+sizesOf frames = sizesBy (mapOf frames) (loadNumber frames)
+
 -- ---- place
 
 pub record PlaceAnswer : Type 0 where

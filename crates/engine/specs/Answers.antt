@@ -2,13 +2,17 @@
 -- write.
 use mathlib.Core.List.{List}
 use Prim.Native.Nat.{ℕ}
-use Rattle.definitions.specs.Calls.{PlaceAnswer, DaemonAnswer, FillAnswer, EditAnswer, CeilingAnswer, WriteAnswer, DayAnswer}
+use Rattle.definitions.specs.Calls.{SizesAnswer, PlaceAnswer, DaemonAnswer, FillAnswer, EditAnswer, CeilingAnswer, WriteAnswer, DayAnswer}
+use Rattle.engine.specs.declared.load.Sizes.{Sizes}
 use Rattle.engine.specs.declared.place.Placing.{Placing}
 use Rattle.engine.specs.declared.fill.Filled.{Filled}
 use Rattle.engine.specs.declared.edit.Edited.{Edited}
 use Rattle.engine.specs.declared.limit.Limit.{Limit}
 use Rattle.engine.specs.declared.write.Written.{Written}
 use Rattle.engine.specs.declared.day.Day.{Day}
+
+abbrev pub sizesAnswer : Sizes → SizesAnswer
+sizesAnswer r = record { number = r .number; groups = r .groups; places = r .places }
 
 abbrev pub writeAnswer : Written → List ℕ → WriteAnswer
 writeAnswer r space = record { number = r .number; bytes = r .bytes; space = space }

@@ -14,7 +14,7 @@ use Rattle.definitions.specs.Rule.{widthOf, placedOf}
 use Rattle.definitions.specs.Table.{tableOf}
 use Rattle.definitions.specs.Writing.{dayGroup, twoBytes}
 use Rattle.definitions.specs.Load.{loadNumber}
-use Rattle.definitions.specs.Calls.{whole, groupBelow, roomForRow, roomForTable, roomForFrames, roomForBytes, placeNumber, placeBy, placeOf, afterLoad, daemonNumber, daemonBy, daemonOf, FillAnswer, fillNumber, fillBy, fillOf, writeNumber, writeBy, writeOf, dayNumber, dayBy, dayOf}
+use Rattle.definitions.specs.Calls.{whole, groupBelow, roomForRow, roomForTable, roomForFrames, roomForBytes, sizesBy, sizesOf, placeNumber, placeBy, placeOf, afterLoad, daemonNumber, daemonBy, daemonOf, FillAnswer, fillNumber, fillBy, fillOf, writeNumber, writeBy, writeOf, dayNumber, dayBy, dayOf}
 use Rattle.text.specs.Agreement.{loaded-text}
 
 -- question 14
@@ -25,6 +25,20 @@ whole-no f h = ne-eqb (loadNumber f) 0 h
 pub whole-yes : (f : List ℕ) → loadNumber f ≡ 0 → whole f ≡ true
 unfolding whole
 whole-yes f e = eq-eqb (loadNumber f) 0 e
+
+-- ---- the sizes of a map
+
+pub sizes-load : (f : List ℕ) → (loadNumber f ≡ 0 → ⊥) → sizesOf f ≡ record { number = loadNumber f; groups = 0; places = 0 }
+unfolding sizesOf sizesBy
+sizes-load f h = go (loadNumber f) h
+  where
+    go : (n : ℕ) → (n ≡ 0 → ⊥) → sizesBy (mapOf f) n ≡ record { number = n; groups = 0; places = 0 }
+    go zero k = absurd (k refl)
+    go (suc n) k = refl
+
+pub sizes-0 : (f : List ℕ) → loadNumber f ≡ 0 → sizesOf f ≡ record { number = 0; groups = mapOf f .groups; places = widthOf (mapOf f) }
+unfolding sizesOf sizesBy
+sizes-0 f e = simp e
 
 -- ---- write
 

@@ -1,4 +1,4 @@
-// The calls for C: those of the storage daemon, and the ceiling for site staff. Placing: "the map's frames, to which load's questions are put first,
+// The calls for C: those of the storage daemon, and those for site staff, which keep a map and its table. Placing: "the map's frames, to which load's questions are put first,
 // the group, and space where each place becomes two bytes, high byte first".
 ghost use mathlib.Core.Path.{_≡_};
 ghost use Prim.Native.Nat.{_*_, _≤_};
@@ -11,15 +11,23 @@ ghost use Rattle.definitions.specs.Rule.{widthOf, placedOf};
 ghost use Rattle.definitions.specs.Load.{loadNumber};
 ghost use Rattle.text.specs.Shape.{shapeOf};
 ghost use Rattle.definitions.specs.Writing.{twoBytes};
-ghost use Rattle.definitions.specs.Calls.{dayOf, daemonOf, ceilingOf};
-ghost use Rattle.engine.specs.Answers.{dayAnswer, daemonAnswer, ceilingAnswer};
+ghost use Rattle.definitions.specs.Calls.{sizesOf, daemonOf, fillOf, editOf, ceilingOf, writeOf, dayOf};
+ghost use Rattle.engine.specs.Answers.{sizesAnswer, daemonAnswer, fillAnswer, editAnswer, ceilingAnswer, writeAnswer, dayAnswer};
 use crate::day;
 use crate::day::Day;
+use crate::edit;
+use crate::edit::Edited;
+use crate::fill;
+use crate::fill::Filled;
 use crate::limit;
 use crate::limit::Limit;
+use crate::load;
+use crate::load::Sizes;
 use crate::place;
 use crate::place::Placing;
 use crate::row;
+use crate::write;
+use crate::write::Written;
 use blocks::widths;
 use frames::records;
 use frames::shape;
@@ -76,6 +84,44 @@ pub extern "C" fn crush_place(map: &[u8], group: u32, out: &mut [u8]) -> Placing
         places: w as u32,
         tries,
     }
+}
+
+// Whether a map loads, and how large its table is.
+#[no_mangle]
+pub extern "C" fn crush_load(map: &[u8]) -> Sizes
+    ensures { λ r. ⌜ sizesAnswer r ≡ sizesOf (now (map .entry)) ⌝ }
+{
+    load::sizes_of(map)
+}
+
+// The table of a map.
+#[no_mangle]
+pub extern "C" fn crush_fill(map: &[u8], table: &mut [u16]) -> Filled
+    ensures { λ r. ⌜ fillAnswer r (now (table .exit)) ≡ fillOf (now (map .entry)) (now (table .entry)) ⌝ }
+{
+    fill::fill(map, table)
+}
+
+// An edit of a drive, into the map, the table and the space lent for its moves.
+#[no_mangle]
+pub extern "C" fn crush_edit(
+    map: &mut [u8],
+    table: &mut [u16],
+    frame: &[u8],
+    space: &mut [u8],
+) -> Edited
+    ensures { λ r. ⌜ editAnswer r (now (map .exit)) (now (table .exit)) (now (space .exit))
+        ≡ editOf (now (map .entry)) (now (table .entry)) (now (frame .entry)) (now (space .entry)) ⌝ }
+{
+    edit::edit(map, table, frame, space)
+}
+
+// A map's frames into the lent space.
+#[no_mangle]
+pub extern "C" fn crush_write(map: &[u8], space: &mut [u8]) -> Written
+    ensures { λ r. ⌜ writeAnswer r (now (space .exit)) ≡ writeOf (now (map .entry)) (now (space .entry)) ⌝ }
+{
+    write::write(map, space)
 }
 
 // The group of a show's day.

@@ -40,6 +40,7 @@ use survey::surveys::Findings;
 use text::Shape;
 
 // The number of the first question answered no, or 0, and how many places moved.
+#[repr(C)]
 pub struct Edited {
     pub number: u32,
     pub moves: u32,

@@ -8,6 +8,7 @@ use frames::records;
 use frames::shape;
 
 // The number of the first question answered no, or 0, and how many places were written.
+#[repr(C)]
 pub struct Filled {
     pub number: u32,
     pub places: usize,

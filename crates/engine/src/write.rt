@@ -5,6 +5,7 @@ ghost use Rattle.engine.specs.Answers.{writeAnswer};
 use frames::writing;
 
 // The number of the first question answered no, or 0, and how many bytes were written.
+#[repr(C)]
 pub struct Written {
     pub number: u32,
     pub bytes: usize,
