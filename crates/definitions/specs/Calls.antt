@@ -289,3 +289,24 @@ dayBy m show day (suc k) = record { number = suc k; group = 0 }
 
 unfoldable pub dayOf : List ℕ → ℕ → ℕ → DayAnswer
 dayOf frames show day = dayBy (mapOf frames) show day (dayNumber frames)
+
+-- ---- the drives of a day: its group, placed as the daemon places it, so load's questions are put once and then 16. Question 15 is put
+-- too, and never answered no: a rest by G is below G.
+
+pub record DrivesAnswer : Type 0 where
+  pub number : ℕ
+  pub group : ℕ
+  pub places : ℕ
+  pub tries : ℕ
+  pub out : List ℕ
+
+-- the placing's number decides: g is the day's group, and a what the daemon is answered for it
+unfoldable pub drivesBy : ℕ → DaemonAnswer → List ℕ → ℕ → DrivesAnswer
+drivesBy g a out zero = record { number = 0; group = g; places = a .places; tries = a .tries; out = a .out }
+drivesBy g a out (suc k) = record { number = suc k; group = 0; places = 0; tries = 0; out = out }
+
+unfoldable pub drivesOf : List ℕ → ℕ → ℕ → List ℕ → DrivesAnswer
+drivesOf frames show day out =
+    let g = dayGroup (mapOf frames) show day in
+    let a = daemonOf frames g out in
+    drivesBy g a out (a .number)

@@ -1,8 +1,9 @@
 -- What each call answers, question by question: laws of the definitions in `Calls`, for the proofs of the engine. Assumes nothing.
-use mathlib.Core.Path.{_≡_, refl, ap, _∙_}
+use mathlib.Core.Path.{_≡_, refl, sym, ap, _∙_}
 use mathlib.Core.Bool.{Bool, true, false}
 use mathlib.Core.List.{List, [], _∷_}
 use Prim.Native.Nat.{ℕ, zero, suc, _*_, _<_, _≤_}
+use native.Mathlib.Nat.{mod-lt}
 use native.Mathlib.Omega.{arith}
 use lib.Dec.{leb}
 use lib.ListN.{length}
@@ -14,7 +15,9 @@ use Rattle.definitions.specs.Rule.{widthOf, placedOf}
 use Rattle.definitions.specs.Table.{tableOf}
 use Rattle.definitions.specs.Writing.{dayGroup, twoBytes}
 use Rattle.definitions.specs.Load.{loadNumber}
-use Rattle.definitions.specs.Calls.{whole, groupBelow, roomForRow, roomForTable, roomForFrames, roomForBytes, sizesBy, sizesOf, placeNumber, placeBy, placeOf, afterLoad, daemonNumber, daemonBy, daemonOf, FillAnswer, fillNumber, fillBy, fillOf, writeNumber, writeBy, writeOf, dayNumber, dayBy, dayOf}
+use Rattle.definitions.specs.Calls.{whole, groupBelow, roomForRow, roomForTable, roomForFrames, roomForBytes, sizesBy, sizesOf, placeNumber, placeBy, placeOf, afterLoad, daemonNumber, DaemonAnswer, daemonBy, daemonOf, FillAnswer, fillNumber, fillBy, fillOf, writeNumber, writeBy, writeOf, dayNumber, dayBy, dayOf, DrivesAnswer, drivesBy, drivesOf}
+use Rattle.laws.specs.Loadable.{ranged-is}
+use Rattle.text.specs.Loading.{loaded}
 use Rattle.text.specs.Agreement.{loaded-text}
 
 -- question 14
@@ -110,6 +113,57 @@ module _ (f : List ℕ) (g : ℕ) (out : List ℕ) (e : loadNumber f ≡ 0) wher
       → daemonOf f g out ≡ record { number = 0; places = widthOf (mapOf f); tries = placedOf (mapOf f) g .tries; out = over (twoBytes (entriesOf (placedOf (mapOf f) g .places))) out }
   unfolding daemonOf daemonNumber afterLoad daemonBy firstNo groupBelow roomForBytes
   daemon-0 h l = simp (e, lt-ltb g (mapOf f .groups) h, le-leb (2 * widthOf (mapOf f)) (length out) l)
+
+-- ---- the drives of a day
+
+-- a refused placing refuses them
+pub drives-refused : (f : List ℕ) (show day : ℕ) (out : List ℕ) (a : DaemonAnswer) → a ≡ daemonOf f (dayGroup (mapOf f) show day) out → (a .number ≡ 0 → ⊥)
+    → drivesOf f show day out ≡ record { number = a .number; group = 0; places = 0; tries = 0; out = a .out }
+unfolding drivesOf drivesBy daemonOf daemonBy
+drives-refused f show day out a e h = go (daemonNumber f g out) e
+  where
+    g : ℕ
+    g = dayGroup (mapOf f) show day
+
+    d : ℕ → DaemonAnswer
+    d n = daemonBy (widthOf (mapOf f)) (placedOf (mapOf f) g) out n
+
+    go : (n : ℕ) → a ≡ d n → drivesBy g (d n) out (d n .number) ≡ record { number = a .number; group = 0; places = 0; tries = 0; out = a .out }
+    go zero p = absurd (h (ap (λ (x : DaemonAnswer). x .number) p))
+    go (suc n) p = ap (λ (x : DaemonAnswer). record { number = x .number; group = 0; places = 0; tries = 0; out = x .out }) (sym p)
+
+-- and so does load
+pub drives-load : (f : List ℕ) (show day : ℕ) (out : List ℕ) (n : ℕ) → n ≡ loadNumber f → (n ≡ 0 → ⊥)
+    → drivesOf f show day out ≡ record { number = n; group = 0; places = 0; tries = 0; out = out }
+drives-load f show day out n p h =
+    drives-refused f show day out (record { number = n; places = 0; tries = 0; out = out }) (rw p (sym (daemon-load f _ out (λ e. h (p ∙ e))))) h
+
+pub drives-0 : (f : List ℕ) (show day : ℕ) (out : List ℕ) (a : DaemonAnswer) → a ≡ daemonOf f (dayGroup (mapOf f) show day) out → a .number ≡ 0
+    → drivesOf f show day out ≡ record { number = 0; group = dayGroup (mapOf f) show day; places = a .places; tries = a .tries; out = a .out }
+unfolding drivesOf drivesBy
+drives-0 f show day out a e z =
+    ap (λ (x : DaemonAnswer). drivesBy (dayGroup (mapOf f) show day) x out (x .number)) (sym e) ∙ ap (drivesBy (dayGroup (mapOf f) show day) a out) z
+
+-- the group of a day is one of the map's
+pub day-below : (f : List ℕ) (show day : ℕ) → loadNumber f ≡ 0 → dayGroup (mapOf f) show day < mapOf f .groups
+unfolding dayGroup
+day-below f show day e = mod-lt _ (ranged-is _ (loaded f e .ranged) .least)
+
+-- so of a map that loads 16 alone can be answered no
+pub drives-number : (f : List ℕ) (show day : ℕ) (out : List ℕ) → loadNumber f ≡ 0 → drivesOf f show day out .number ≡ firstNo ((16, roomForBytes (mapOf f) out) ∷ [])
+unfolding drivesOf drivesBy daemonOf daemonBy daemonNumber afterLoad firstNo groupBelow
+drives-number f show day out e =
+    number (daemonNumber f g out) ∙ simp (e, lt-ltb g (mapOf f .groups) (day-below f show day e))
+  where
+    g : ℕ
+    g = dayGroup (mapOf f) show day
+
+    d : ℕ → DaemonAnswer
+    d n = daemonBy (widthOf (mapOf f)) (placedOf (mapOf f) g) out n
+
+    number : (n : ℕ) → drivesBy g (d n) out (d n .number) .number ≡ n
+    number zero = refl
+    number (suc n) = refl
 
 -- ---- fill
 

@@ -8,3 +8,4 @@ pub mod Fitting
 pub mod Limits
 pub mod Paired
 pub mod Reaching
+pub mod Version

@@ -1,7 +1,7 @@
-// The calls for C: those of the storage daemon, and those for site staff, which keep a map and its table. Placing: "the map's frames, to which load's questions are put first,
-// the group, and space where each place becomes two bytes, high byte first".
+// The calls for C: those of the storage daemon, and those for site staff, who keep a map and its table. Placing: "the map's frames, to which
+// load's questions are put first, the group, and space where each place becomes two bytes, high byte first".
 ghost use mathlib.Core.Path.{_≡_};
-ghost use Prim.Native.Nat.{_*_, _≤_};
+ghost use Prim.Native.Nat.{_*_, _<_, _≤_};
 ghost use lib.ListN.{length};
 ghost use Rattle.definitions.specs.Lists.{over};
 ghost use Rattle.definitions.specs.Frames.{framesIn};
@@ -11,8 +11,9 @@ ghost use Rattle.definitions.specs.Rule.{widthOf, placedOf};
 ghost use Rattle.definitions.specs.Load.{loadNumber};
 ghost use Rattle.text.specs.Shape.{shapeOf};
 ghost use Rattle.definitions.specs.Writing.{twoBytes};
-ghost use Rattle.definitions.specs.Calls.{sizesOf, daemonOf, fillOf, editOf, ceilingOf, writeOf, dayOf};
-ghost use Rattle.engine.specs.Answers.{sizesAnswer, daemonAnswer, fillAnswer, editAnswer, ceilingAnswer, writeAnswer, dayAnswer};
+ghost use Rattle.definitions.specs.Calls.{sizesOf, daemonOf, fillOf, editOf, ceilingOf, writeOf, dayOf, drivesOf};
+ghost use Rattle.engine.specs.Answers.{sizesAnswer, daemonAnswer, fillAnswer, editAnswer, ceilingAnswer, writeAnswer, dayAnswer, drivesAnswer};
+ghost use Rattle.engine.specs.Version.{version};
 use crate::day;
 use crate::day::Day;
 use crate::edit;
@@ -32,6 +33,15 @@ use blocks::widths;
 use frames::records;
 use frames::shape;
 use text::Shape;
+
+// The number of the first question answered no, or 0, the day's group, how many places were written, and the tries.
+#[repr(C)]
+pub struct Drives {
+    pub number: u32,
+    pub group: u32,
+    pub places: u32,
+    pub tries: u32,
+}
 
 // Each place as two bytes, over the front of the space.
 fn put_bytes(row: &[u16], out: &mut [u8])
@@ -61,18 +71,12 @@ fn place_bytes(map: &[u8], s: Shape, x: u32, row: &mut [u16], out: &mut [u8]) ->
     tries
 }
 
-#[no_mangle]
-pub extern "C" fn crush_place(map: &[u8], group: u32, out: &mut [u8]) -> Placing
+// The list of a group of a map that loads, in bytes: question 16, then the list.
+fn listed(map: &[u8], group: u32, out: &mut [u8]) -> Placing
+    requires { ⌜ (loadNumber (now map) ≡ 0) × (group < mapOf (now map) .groups) ⌝ }
     ensures { λ r. ⌜ daemonAnswer r (now (out .exit)) ≡ daemonOf (now (map .entry)) group (now (out .entry)) ⌝ }
 {
-    let number = door::load(map);
-    if number != 0 {
-        return place::refused(number);
-    }
     let s = shape::shape_of(map);
-    if records::groups(map) <= group {
-        return place::refused(15);
-    }
     let w = widths::width(map, s);
     if out.len() < 2 * w {
         return place::refused(16);
@@ -83,6 +87,54 @@ pub extern "C" fn crush_place(map: &[u8], group: u32, out: &mut [u8]) -> Placing
         number: 0,
         places: w as u32,
         tries,
+    }
+}
+
+#[no_mangle]
+pub extern "C" fn crush_place(map: &[u8], group: u32, out: &mut [u8]) -> Placing
+    ensures { λ r. ⌜ daemonAnswer r (now (out .exit)) ≡ daemonOf (now (map .entry)) group (now (out .entry)) ⌝ }
+{
+    let number = door::load(map);
+    if number != 0 {
+        return place::refused(number);
+    }
+    if records::groups(map) <= group {
+        return place::refused(15);
+    }
+    listed(map, group, out)
+}
+
+// A refusal: its number, no group and counts of zero.
+fn refused(number: u32) -> Drives
+    ensures { λ r. ⌜ r ≡ record { number = number; group = 0; places = 0; tries = 0 } ⌝ }
+{
+    Drives {
+        number,
+        group: 0,
+        places: 0,
+        tries: 0,
+    }
+}
+
+// The drives of a show's day, in one call: the group and its list.
+#[no_mangle]
+pub extern "C" fn crush_day_drives(map: &[u8], show: u32, day: u32, out: &mut [u8]) -> Drives
+    ensures { λ r. ⌜ drivesAnswer r (now (out .exit)) ≡ drivesOf (now (map .entry)) show day (now (out .entry)) ⌝ }
+{
+    let number = door::load(map);
+    if number != 0 {
+        return refused(number);
+    }
+    let group = day::group_of(map, show, day);
+    let p = listed(map, group, out);
+    if p.number != 0 {
+        return refused(p.number);
+    }
+    Drives {
+        number: 0,
+        group,
+        places: p.places,
+        tries: p.tries,
     }
 }
 
@@ -138,4 +190,12 @@ pub extern "C" fn crush_ceiling(map: &[u8], table: &[u16], device: u32) -> Limit
     ensures { λ r. ⌜ ceilingAnswer r ≡ ceilingOf (now (map .entry)) (now (table .entry)) device ⌝ }
 {
     limit::ceiling(map, table, device)
+}
+
+// The version of these calls.
+#[no_mangle]
+pub extern "C" fn crush_version() -> u32
+    ensures { λ r. ⌜ r ≡ version ⌝ }
+{
+    10700
 }
