@@ -308,16 +308,18 @@ def of_lines(rng, lines):
 
 def out_of_range(rng, draft):
     """Question 5."""
-    field, value = rng.choice((
-        (draft.drives, [(0, 1024), (1, 65536), (2, 65537)]), (draft.buckets, [(0, 256), (1, 0), (2, 0), (2, 3)]),
-        (draft.links, [(0, 256), (1, 1024), (1, 65535), (1, 65792)]),
-        (draft.steps, [(0, 0), (0, 6), (1, 17), (1, 0), (2, 255), (3, 256), (3, 1), (2, 1)]),
-        (None, (0, 65537))))
-    if field is None:
-        draft.groups = rng.choice(value)
+    fields = (
+        (draft.drives, ((0, 1024), (1, 65536), (2, 65537))),
+        (draft.buckets, ((0, 256), (1, 0), (2, 0), (2, 3))),
+        (draft.links, ((0, 256), (1, 1024), (1, 65535), (1, 65792))),
+        (draft.steps, ((0, 0), (0, 6), (1, 17), (1, 0), (2, 255), (3, 256), (3, 1), (2, 1))),
+    )
+    if rng.random() < 0.15:
+        draft.groups = rng.choice((0, 65537))
     else:
-        at, other = rng.choice(value)
-        rng.choice(field)[at] = other
+        records, values = rng.choice([field for field in fields if field[0]])
+        at, value = rng.choice(values)
+        rng.choice(records)[at] = value
 
 
 def disordered(rng, draft):
@@ -332,10 +334,10 @@ def disordered(rng, draft):
 
 def absent(rng, draft):
     """Question 7."""
-    if rng.random() < 0.3:
+    records = rng.choice((draft.drives, draft.buckets, draft.steps))
+    if records is draft.steps or len(records) == 1:
         rng.choice([step for step in draft.steps if step[0] == 1])[3] = rng.randrange(256)
     else:
-        records = rng.choice((draft.drives, draft.buckets))
         records.pop(rng.randrange(len(records)))
 
 
@@ -415,28 +417,46 @@ def miscounted(rng, draft):
     draft.more = rng.choice((-1, 1, 5, 1000))
 
 
-DAMAGES = (out_of_range, disordered, absent, twice, mistyped, unfilled, crowded, misruled, through_drives, wide, misweighed, miscounted)
+# those that leave nothing for others, as a rule without steps, come last
+DAMAGES = (absent, twice, mistyped, crowded, disordered, through_drives, wide, misweighed, unfilled, misruled, miscounted, out_of_range)
 
 
-def damaged(rng, kind):
-    """The bytes of a map with a damage of this kind; with some luck a second one comes behind it."""
+def damaged(rng, *damages):
     draft = Draft(rng)
-    if kind < len(DAMAGES):
-        DAMAGES[kind](rng, draft)
-        if rng.random() < 0.2:
-            try:
-                rng.choice(DAMAGES)(rng, draft)
-            except (IndexError, ValueError, ZeroDivisionError):
-                pass  # the first damage left nothing for the second
-        return draft.bytes()
-    if kind == len(DAMAGES):
-        return of_bytes(rng, draft.bytes())
-    lines = draft.lines()
+    for damage in damages:
+        damage(rng, draft)
+    return draft.bytes()
+
+
+def of_changed_lines(rng):
+    lines = Draft(rng).lines()
     for _ in range(rng.choice((1, 1, 2))):
         lines = of_lines(rng, lines)
     if rng.random() < 0.5 and lines:
         lines[-1] = f"05{len(lines) - 1:04x}"
     return "".join(line + "\n" for line in lines).encode()
+
+
+def edges(data):
+    """Maps at the very edge of a question, from one of cabinets of drives."""
+    start = data[:data.index(b"\n04") + 1]
+
+    def ruled(*steps):
+        return start + b"".join(step + b"\n" for step in steps) + b"05%04x\n" % (start.count(b"\n") + len(steps))
+
+    take, emit = b"040100000000", b"040400000000"
+    one, through = b"040301010000", b"040502010000"
+    short, full = (take, b"040301000000", emit), (take, b"040310000000", emit)
+    long = take, one, *short[1:]
+    yield from (ruled(*long * 4), ruled(*short * 3, *long * 2), ruled(*full * 2), ruled(*full * 2, *short))
+    for selects in ((), (one,), (one, one, short[1]), (through, short[1]), (one, through), (b"040501000000",), (one, b"040501000000")):
+        yield ruled(take, *selects, emit)
+    yield from (ruled(take, select, emit) for select in (b"040300000000", b"040311000000", b"0403010000ff", b"0403010000"))
+    yield from (ruled(other, *short[1:]) for other in (b"040100010000", b"040101000000", b"040100000100"))
+    yield data.replace(b"050023", b"0500230") + b"21ZZ\n"
+    yield data[:-1] + b"0\n21ZZ"
+    # a bucket in 03 lines alone, which no other names
+    yield data.replace(b"\n02", b"\n01006000001f4000010000\n02", 1).replace(b"\n04", b"\n03000600000060\n04", 1).replace(b"050023", b"050025")
 
 
 def told_why(path, **more):
@@ -470,10 +490,12 @@ def check_why(data, answers):
 
 def test_why(rng):
     answers = collections.Counter()
-    for turn in range(800):
-        check_why(damaged(rng, turn % (len(DAMAGES) + 4)), answers)
-    for _ in range(60):
-        check_why(Draft(rng).bytes(), answers)
+    maps = [damaged(rng, damage) for damage in DAMAGES for _ in range(24)]
+    maps += [damaged(rng, *pair) for pair in itertools.combinations(DAMAGES, 2) for _ in range(3)]
+    maps += [of_bytes(rng, Draft(rng).bytes()) for _ in range(60)] + [of_changed_lines(rng) for _ in range(150)]
+    maps += [Draft(rng).bytes() for _ in range(60)] + list(edges(CABINETS.read_bytes()))
+    for data in maps:
+        check_why(data, answers)
     large = Draft(rng)
     large.groups = 65536
     check_why(large.bytes(), answers)
@@ -633,8 +655,8 @@ def test_bad_input():
     bad("no names", run("tree", CABINETS, "--names", here / "absent"), 1, "absent: cannot read it")
     loose = CABINETS.read_bytes().replace(b"\n02", b"\n01006000001f4000010000\n02", 1).replace(b"050023", b"050024")
     status, out, _ = run("summary", kept("loose", loose), "--svg", here / "loose.svg", given=b"1100000000001000110060\n")
-    check("a row of another map", (status, "(the map has 4 groups: not every one has a row here)" in out, "drive 0060       1        0.0      -" in out),
-          (0, True, True))
+    for words in ("(the map has 4 groups: not every one has a row here)", "drive 0060       1        0.0      -"):
+        check(f"a row of another map, {words}", (status, words in out), (0, True))
     bad("no place for the picture", run("summary", "--svg", here, given=ROW), 1, "cannot write it: Is a directory")
     with open("/dev/full", "wb") as end:
         bad("standard output is full", start("tree", ARCHIVE, stdout=end), 1, "cannot write standard output: No space left on device")
