@@ -287,13 +287,13 @@ def ask_bytes(given):
         faults.append(Fault((1,), "the file begins with a byte order mark (BOM, bytes ef bb bf): save it without one"))
     first, counts = {}, collections.Counter()
     for found in re.finditer(rb"[^0-9a-f\n]", data[start:]):
-        words = named_byte(found[0][0])
-        counts[words] += 1
-        first.setdefault(words, start + found.start())
-    for words, where in first.items():
+        sort = "capitals" if found[0] in b"ABCDEF" else found[0]
+        counts[sort] += 1
+        first.setdefault(sort, start + found.start())
+    for sort, where in first.items():
         line, column = 1 + data.count(b"\n", 0, where), where - data.rfind(b"\n", 0, where)
-        among = "" if counts[words] == 1 else f", the first of {counts[words]} in the map"
-        faults.append(Fault((line,), f"column {column}: {words}{among}"))
+        among = "" if counts[sort] == 1 else f", the first of {counts[sort]} {'capitals ' if sort == 'capitals' else ''}in the map"
+        faults.append(Fault((line,), f"column {column}: {named_byte(data[where])}{among}"))
     only_13 = b"\r" in data and b"\n" not in data
     if not data.endswith(b"\n") and not only_13:
         last = given.lines[-1]
@@ -302,22 +302,24 @@ def ask_bytes(given):
             what = "the newline (byte 10) behind the last line is missing: add it"
         else:
             known = f", and one of kind {kind} has {LENGTHS[kind]}" if kind in LENGTHS else ""
-            what = f"the map is cut off: its last line has no newline (byte 10). The line has {counted(len(last), 'digit')}{known}"
+            what = f"the map is cut off: its last line has no newline (byte 10). The line has {counted(len(last), 'byte')}{known}"
         faults.append(Fault((len(given.lines),), what))
     return faults
 
 
 def ask_lengths(given):
-    faults = []
+    faults, ended = [], False
     for at, line in enumerate(given.lines, 1):
         kind, length = line[:2].decode("ascii"), len(line)
         if not line:
             what = "an empty line: take it out"
         elif kind in ("21", "22") and length == 14:
-            what = "this is an edit, and a map has none. Edits come behind the 05 line, which is missing before it"
+            what = "this is an edit, and a map has none. " + ("The call from C takes the map alone, through its 05 line" if ended else
+                                                              "Edits come behind the 05 line, which is missing before it")
         elif kind not in LENGTHS:
             what = f"{kind} is no kind of line: a map has kinds 00 to 05"
         elif length == LENGTHS[kind]:
+            ended = ended or kind == "05"
             continue
         else:
             what = f"a line of kind {kind} has {LENGTHS[kind]} digits, and this one has {length}"
@@ -334,10 +336,10 @@ def ask_order(given):
     if kinds[0] != "00":
         faults.append(Fault((1,), "the first line is not the 00 line, which tells the number of groups"))
     for at, (before, kind) in enumerate(zip(kinds, kinds[1:]), 2):
-        if kind == "00":
-            faults.append(Fault((at,), "a 00 line that is not the first line"))
-        elif before == "05":
+        if before == "05":
             faults.append(Fault((at,), "a line behind the 05 line, which is the last of a map"))
+        elif kind == "00":
+            faults.append(Fault((at,), "a 00 line that is not the first line"))
         elif kind < before:
             faults.append(Fault((at,), f"a {kind} line behind a {before} line: the 01 lines come first, then the 02, 03 and 04 lines"))
     if "05" not in kinds:
@@ -938,8 +940,9 @@ def why(options):
     if rest and not options.whole:
         lines = len(lines_of(rest))
         whole = told_number(refusal_of(Map(data))[0])
-        yield (f"{counted(lines, 'line follows', 'lines follow')} the 05 line: program fill takes {'it' if lines == 1 else 'them'} as edits. "
-               f"The call from C, which takes the whole file as the map, refuses it with {whole}; --whole tells why.")
+        follow = "1 line follows the 05 line: program fill takes it as an edit" if lines == 1 else (
+            f"{lines} lines follow the 05 line: program fill takes them as edits")
+        yield f"{follow}. The call from C, which takes the whole file as the map, refuses it with {whole}; --whole tells why."
 
 
 # ---- the picture

@@ -508,9 +508,11 @@ def whys_of(data):
     """What the words of a refusal have to name, and a map with that fault."""
     return (
         ("byte 13", data.replace(b"\n", b"\r\n")), ("the first of 36 in the map", data.replace(b"\n", b"\r\n")),
-        ("column 12: the capital F", data.replace(b"f", b"F")), ("column 1: a blank", data.replace(b"\n0200", b"\n 0200")),
+        ("column 12: the capital F (the digits are lower-case), the first of 10 capitals in the map", data.replace(b"f", b"F")),
+        ("column 1: a blank", data.replace(b"\n0200", b"\n 0200")),
         ("BOM", b"\xef\xbb\xbf" + data), ("UTF-16", data.decode().encode("utf-16")), ("the map is empty", b""),
-        ("the newline (byte 10) behind the last line is missing", data[:-1]), ("the map is cut off", data[:300]),
+        ("the newline (byte 10) behind the last line is missing", data[:-1]),
+        ("the map is cut off: its last line has no newline (byte 10). The line has 5 bytes, and one of kind 01 has 22", data[:200]),
         ("65536 are the most", b"0\n" * 40000),
         ("an empty line", data.replace(b"\n04", b"\n\n04", 1)), ("this is an edit", data.replace(b"050023", b"21001000000000")),
         ("before change 6", data.replace(b"\n020001010100003e80", b"\n0200010101")),
@@ -541,7 +543,9 @@ def test_why_words():
     check("lines behind the map", "3 lines follow the 05 line: program fill takes them as edits" in told and "refuses it with 1 (1f01)" in told, True)
     for number, other in ((2, edits + b"\n"), (3, data + data)):
         path = kept("whole", other)
-        check("why --whole", run("why", "--whole", path)[1].split("\n")[0], f"{path} is refused with {number} (1f{number:02x}).")
+        told = run("why", "--whole", path)[1]
+        check("why --whole", told.split("\n")[0], f"{path} is refused with {number} (1f{number:02x}).")
+        check("why --whole, its words", "takes the map alone" in told or "a line behind the 05 line" in told, True)
 
 
 # ---- trees of many shapes
