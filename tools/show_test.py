@@ -451,7 +451,7 @@ def edges(data):
     yield from (ruled(*long * 4), ruled(*short * 3, *long * 2), ruled(*full * 2), ruled(*full * 2, *short))
     for selects in ((), (one,), (one, one, short[1]), (through, short[1]), (one, through), (b"040501000000",), (one, b"040501000000")):
         yield ruled(take, *selects, emit)
-    yield from (ruled(take, select, emit) for select in (b"040300000000", b"040311000000", b"0403010000ff", b"0403010000"))
+    yield from (ruled(take, select, emit) for select in (b"040300000000", b"040311000000", b"040301ff0000", b"0403010000ff", b"0403010000"))
     yield from (ruled(other, *short[1:]) for other in (b"040100010000", b"040101000000", b"040100000100"))
     yield data.replace(b"050023", b"0500230") + b"21ZZ\n"
     yield data[:-1] + b"0\n21ZZ"
