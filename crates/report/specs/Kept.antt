@@ -1,23 +1,28 @@
 -- What is kept of a line decides what the line does: an edit frame has 14 bytes, and 15 are kept. Assumes nothing.
 use mathlib.Core.Path.{_≡_, refl, sym, ap, _∙_}
-use mathlib.Core.Bool.{Bool, true, false, cond}
+use mathlib.Core.Bool.{Bool, true, false, cond, _&&_}
 use mathlib.Core.List.{List, [], _∷_, _++_}
 use Prim.Native.Nat.{ℕ, zero, suc, _+_, _*_, _<_, _≤_}
 use native.Mathlib.Omega.{arith}
 use native.Mathlib.Numerals.{add-one}
 use native.Mathlib.Decide.{decLt}
-use lib.ListN.{length, take, set, length-take, length-append, length-set}
+use lib.ListN.{length, getD, take, set, length-take, length-append, length-set}
 use lib.Seq.{take-all, take-append-le, take-suc-set, length-take-le}
+use lib.Dec.{eqb}
 use borrow.Author.Tests.{eq-eqb, ne-eqb, leb-true}
 use Rattle.definitions.specs.declared.Change.{Change}
 use Rattle.definitions.specs.declared.Change.the-variants.{Malformed}
-use Rattle.definitions.specs.Lists.{firstNo}
+use Rattle.definitions.specs.Lists.{same, firstNo}
 use Rattle.definitions.specs.Edit.{changeOf}
 use Rattle.definitions.specs.Calls.{roomForMoves, EditAnswer, EditCase, caseOf, editNumber, editBy, editAnswer, editOf}
 use Rattle.report.specs.declared.edits.Line.{Line}
+use Rattle.report.specs.declared.edits.Said.{Said}
 use Rattle.report.specs.declared.edits.Turn.{Turn}
+use Rattle.report.specs.declared.asked.Program.{Program}
+use Rattle.report.specs.declared.asked.Program.the-variants.{Fill, Operate}
 use Rattle.report.specs.Lines.{refusalLine}
-use Rattle.report.specs.Edits.{Session, isEdit, printedBy, edited, lineOf, byteOf, endOf}
+use Rattle.report.specs.Edits.{Session, isEdit, printedBy, edited, askedOf, saysOf, lineOf, byteOf, endOf}
+use Rattle.report.specs.Says.{Says, says-front}
 
 -- the line l keeps the front of the bytes xs
 pub record Keeps (l : Line) (xs : List ℕ) : Type 0 where
@@ -25,16 +30,15 @@ pub record Keeps (l : Line) (xs : List ℕ) : Type 0 where
   pub count : l .count ≡ length (take 15 xs)
   pub long : length (l .bytes) ≡ 15
 
--- what was lent is as the session says, and the first n bytes of the space are what it prints
-pub record Answers (n : ℕ) (frames table space : List ℕ) (s : Session) : Type 0 where
+-- what was lent is as the session says, and so is what is printed
+pub record Answers (r : Said) (frames table space : List ℕ) (s : Session) : Type 0 where
   pub frames-are : frames ≡ s .frames
   pub table-is : table ≡ s .table
-  pub printed : take n space ≡ s .printed
-  pub within : n ≤ length space
+  pub says : Says r table space (s .printed)
 
 -- and so is the line under way
 pub record Stands (t : Turn) (frames table space : List ℕ) (s : Session) : Type 0 where
-  pub lent : Answers (t .printed) frames table space s
+  pub lent : Answers (t .said) frames table space s
   pub line : Keeps (t .line) (s .line)
 
 -- ---- a good edit's moves have room
@@ -63,10 +67,6 @@ edit-room f t e s z = go (editNumber C) refl z
         omega (arith, r)
     go (suc n) p z = absurd (omega arith)
 
--- what is written at the front lies within the space
-pub front-room : (xs ys : List ℕ) (n : ℕ) → length xs ≡ n → n ≤ length (xs ++ ys)
-front-room xs ys n h = omega (arith, h, length-append xs ys)
-
 -- ---- a line grows
 
 -- it keeps 15 bytes already
@@ -90,7 +90,7 @@ keeps-more l b h xs k =
 
 -- ---- the bytes kept ask for what the line does
 
-malformed : (ys : List ℕ) → (length ys ≡ 14 → ⊥) → changeOf ys ≡ Malformed
+pub malformed : (ys : List ℕ) → (length ys ≡ 14 → ⊥) → changeOf ys ≡ Malformed
 unfolding changeOf
 malformed ys h = rw (ne-eqb (length ys) 14 h)
 
@@ -102,50 +102,93 @@ change-kept xs = go (decLt (length xs) 15)
     go (no h) =
         malformed (take 15 xs) (λ e. omega (arith, e, length-take-le 15 xs (omega arith))) ∙ sym (malformed xs (λ e. omega (arith, e, h)))
 
--- the edit is that of its change
-line-change : (f t d e s : List ℕ) → changeOf d ≡ changeOf e → lineOf f t d s ≡ lineOf f t e s
-unfolding lineOf editOf caseOf
-line-change f t d e s h = rw h
+-- a call has two bytes
+pub other : (ys : List ℕ) (a b : ℕ) → (length ys ≡ 2 → ⊥) → same ys (a ∷ b ∷ []) ≡ false
+unfolding same
+other [] a b h = refl
+other (y ∷ []) a b h = first (eqb y a)
+  where
+    first : (q : Bool) → (q && false) ≡ false
+    first true = refl
+    first false = refl
+other (y ∷ z ∷ []) a b h = absurd (h refl)
+other (y ∷ z ∷ x ∷ ys) a b h = both (eqb y a) (eqb z b)
+  where
+    both : (q r : Bool) → (q && (r && false)) ≡ false
+    both true true = refl
+    both true false = refl
+    both false r = refl
 
-pub line-kept : (l : Line) (xs : List ℕ) → Keeps l xs → (f t s : List ℕ) → lineOf f t (take (l .count) (l .bytes)) s ≡ lineOf f t xs s
-line-kept l xs k f t s = line-change f t _ xs s (ap changeOf (k .kept) ∙ change-kept xs)
+pub call-two : (ys : List ℕ) (a b : ℕ) → length ys ≡ 2 → same ys (a ∷ b ∷ []) ≡ (eqb (getD ys 0 0) a && eqb (getD ys 1 0) b)
+unfolding same
+call-two [] a b h = absurd (omega (arith, h))
+call-two (y ∷ []) a b h = absurd (omega (arith, h))
+call-two (y ∷ z ∷ []) a b h = ap (λ (q : Bool). eqb y a && q) (last (eqb z b))
+  where
+    last : (q : Bool) → (q && true) ≡ q
+    last true = refl
+    last false = refl
+call-two (y ∷ z ∷ x ∷ ys) a b h = absurd (omega (arith, h))
+
+asked-other : (p : Program) (ys zs : List ℕ) → (length ys ≡ 2 → ⊥) → (length zs ≡ 2 → ⊥) → askedOf p ys ≡ askedOf p zs
+unfolding askedOf
+asked-other Fill ys zs h k = refl
+asked-other Operate ys zs h k = rw (other ys 50 99 h, other ys 50 100 h, other zs 50 99 k, other zs 50 100 k)
+
+asked-kept : (p : Program) (xs : List ℕ) → askedOf p (take 15 xs) ≡ askedOf p xs
+asked-kept p xs = go (decLt (length xs) 15)
+  where
+    go : Dec (length xs < 15) → askedOf p (take 15 xs) ≡ askedOf p xs
+    go (yes h) = ap (askedOf p) (take-all 15 xs (omega arith))
+    go (no h) = asked-other p (take 15 xs) xs (λ e. omega (arith, e, length-take-le 15 xs (omega arith))) (λ e. omega (arith, e, h))
+
+-- the edit is that of its change, and any other line does what it asks for
+line-change : (p : Program) (f t d e s : List ℕ) → changeOf d ≡ changeOf e → askedOf p d ≡ askedOf p e → lineOf p f t d s ≡ lineOf p f t e s
+unfolding lineOf editOf caseOf
+line-change p f t d e s h k = rw (h, k)
+
+pub line-kept : (p : Program) (l : Line) (xs : List ℕ) → Keeps l xs → (f t s : List ℕ) → lineOf p f t (take (l .count) (l .bytes)) s ≡ lineOf p f t xs s
+line-kept p l xs k f t s =
+    line-change p f t _ xs s (ap changeOf (k .kept) ∙ change-kept xs) (ap (askedOf p) (k .kept) ∙ asked-kept p xs)
 
 -- ---- what a line answers
 
 -- of no edit form
-pub line-18 : (f t e s : List ℕ) → isEdit (changeOf e) ≡ false → lineOf f t e s ≡ record { frames = f; table = t; line = []; printed = refusalLine 18 }
+pub line-asked : (p : Program) (f t e s : List ℕ) → isEdit (changeOf e) ≡ false
+    → lineOf p f t e s ≡ record { frames = f; table = t; line = []; printed = saysOf (askedOf p e) f t s }
 unfolding lineOf
-line-18 f t e s h = rw h
+line-asked p f t e s h = rw h
 
 -- an edit is asked
-line-edit : (f t e s : List ℕ) → isEdit (changeOf e) ≡ true → lineOf f t e s ≡ edited (editOf f t e s)
+line-edit : (p : Program) (f t e s : List ℕ) → isEdit (changeOf e) ≡ true → lineOf p f t e s ≡ edited (editOf f t e s)
 unfolding lineOf
-line-edit f t e s h = rw h
+line-edit p f t e s h = rw h
 
-module _ (f t e s : List ℕ) (h : isEdit (changeOf e) ≡ true) (a : EditAnswer) (i : a ≡ editOf f t e s) where
-  line-by : lineOf f t e s ≡ edited a
-  line-by = line-edit f t e s h ∙ ap edited (sym i)
+module _ (p : Program) (f t e s : List ℕ) (h : isEdit (changeOf e) ≡ true) (a : EditAnswer) (i : a ≡ editOf f t e s) where
+  line-by : lineOf p f t e s ≡ edited a
+  line-by = line-edit p f t e s h ∙ ap edited (sym i)
 
   -- and refused
-  pub line-refused : (n : ℕ) (space : List ℕ) → (a .number ≡ 0 → ⊥) → take n space ≡ refusalLine (a .number) → n ≤ length space
-      → Answers n (a .frames) (a .table) space (lineOf f t e s)
+  pub line-refused : (r : Said) (space : List ℕ) → (a .number ≡ 0 → ⊥) → Says r (a .table) space (refusalLine (a .number))
+      → Answers r (a .frames) (a .table) space (lineOf p f t e s)
   unfolding printedBy
-  line-refused n space z p w = rw line-by (record { frames-are = refl; table-is = refl; printed = p ∙ sym (refusal (a .number) z); within = w })
+  line-refused r space z q = rw line-by (record { frames-are = refl; table-is = refl; says = rw (refusal (a .number) z) q })
     where
       refusal : (k : ℕ) → (k ≡ 0 → ⊥) → printedBy k a ≡ refusalLine k
       refusal zero z = absurd (z refl)
       refusal (suc k) z = refl
 
   -- and done
-  pub line-done : (n : ℕ) → a .number ≡ 0 → n ≡ a .moves * 23 → length (a .space) ≡ length s → Answers n (a .frames) (a .table) (a .space) (lineOf f t e s)
+  pub line-done : (n : ℕ) → a .number ≡ 0 → n ≡ a .moves * 23 → length (a .space) ≡ length s
+      → Answers (record { bytes = n; groups = 0; width = 0 }) (a .frames) (a .table) (a .space) (lineOf p f t e s)
   unfolding printedBy
-  line-done n z p l =
+  line-done n z q l =
       rw line-by
       (record {
         frames-are = refl;
         table-is = refl;
-        printed = ap (λ (k : ℕ). take k (a .space)) p ∙ sym (moved (a .number) z);
-        within = let q = edit-room f t e s (ap (λ (x : EditAnswer). x .number) (sym i) ∙ z) in omega (arith, p, l, q, ap (λ (x : EditAnswer). x .moves) i);
+        says = says-front n _ _ _ (ap (λ (k : ℕ). take k (a .space)) q ∙ sym (moved (a .number) z))
+            (let m = edit-room f t e s (ap (λ (x : EditAnswer). x .number) (sym i) ∙ z) in omega (arith, q, l, m, ap (λ (x : EditAnswer). x .moves) i));
       })
     where
       moved : (k : ℕ) → k ≡ 0 → printedBy k a ≡ take (a .moves * 23) (a .space)
@@ -155,21 +198,21 @@ module _ (f t e s : List ℕ) (h : isEdit (changeOf e) ≡ true) (a : EditAnswer
 -- ---- the bytes and the end of the input
 
 -- a line has ended, and no line is under way
-pub line-none : (f t e s : List ℕ) → lineOf f t e s .line ≡ []
+pub line-none : (p : Program) (f t e s : List ℕ) → lineOf p f t e s .line ≡ []
 unfolding lineOf
-line-none f t e s = go (isEdit (changeOf e))
+line-none p f t e s = go (isEdit (changeOf e))
   where
-    go : (b : Bool) → cond b (edited (editOf f t e s)) (record { frames = f; table = t; line = []; printed = refusalLine 18 }) .line ≡ []
+    go : (b : Bool) → cond b (edited (editOf f t e s)) (record { frames = f; table = t; line = []; printed = saysOf (askedOf p e) f t s }) .line ≡ []
     go true = refl
     go false = refl
 
-pub byte-10 : (f t l : List ℕ) (b : ℕ) (s : List ℕ) → b ≡ 10 → byteOf f t l b s ≡ lineOf f t l s
+pub byte-10 : (p : Program) (f t l : List ℕ) (b : ℕ) (s : List ℕ) → b ≡ 10 → byteOf p f t l b s ≡ lineOf p f t l s
 unfolding byteOf
-byte-10 f t l b s h = rw (eq-eqb b 10 h)
+byte-10 p f t l b s h = rw (eq-eqb b 10 h)
 
-pub byte-other : (f t l : List ℕ) (b : ℕ) (s : List ℕ) → (b ≡ 10 → ⊥) → byteOf f t l b s ≡ record { frames = f; table = t; line = l ++ (b ∷ []); printed = [] }
+pub byte-other : (p : Program) (f t l : List ℕ) (b : ℕ) (s : List ℕ) → (b ≡ 10 → ⊥) → byteOf p f t l b s ≡ record { frames = f; table = t; line = l ++ (b ∷ []); printed = [] }
 unfolding byteOf
-byte-other f t l b s h = rw (ne-eqb b 10 h)
+byte-other p f t l b s h = rw (ne-eqb b 10 h)
 
 pub keeps-none : (l : Line) (xs : List ℕ) → Keeps l xs → l .count ≡ 0 → xs ≡ []
 keeps-none l [] k e = refl
@@ -179,11 +222,11 @@ pub keeps-empty : (l : Line) (xs : List ℕ) → Keeps l xs → xs ≡ [] → l 
 keeps-empty l [] k e = k .count
 keeps-empty l (x ∷ xs) k e = absurd (let z : suc (length xs) ≡ 0 = ap length e in omega arith)
 
-pub end-none : (f t l s : List ℕ) → l ≡ [] → endOf f t l s ≡ record { frames = f; table = t; line = []; printed = [] }
+pub end-none : (p : Program) (f t l s : List ℕ) → l ≡ [] → endOf p f t l s ≡ record { frames = f; table = t; line = []; printed = [] }
 unfolding endOf
-end-none f t l s e = rw e
+end-none p f t l s e = rw e
 
-pub end-some : (f t l s : List ℕ) → (l ≡ [] → ⊥) → endOf f t l s ≡ lineOf f t l s
+pub end-some : (p : Program) (f t l s : List ℕ) → (l ≡ [] → ⊥) → endOf p f t l s ≡ lineOf p f t l s
 unfolding endOf
-end-some f t [] s h = absurd (h refl)
-end-some f t (b ∷ l) s h = refl
+end-some p f t [] s h = absurd (h refl)
+end-some p f t (b ∷ l) s h = refl

@@ -1,7 +1,9 @@
--- What program `fill` reads as the map and what it prints, and what the proofs say of it.
+-- What programs `fill` and `operate` read as the map and what they print, and what the proofs say of it.
 pub mod Input
 pub mod Lines
 pub mod Edits
+pub mod Says
 pub mod Kept
 pub mod Reads
 pub mod Written
+pub mod Again

@@ -1,12 +1,18 @@
-// The lines behind the map: "Each later line, an unended last one too, is one edit."
+// The lines behind the map: "Each later line, an unended last one too, is one edit." Of program `operate` a line may be another call too.
 ghost use mathlib.Core.Path.{_≡_};
+ghost use mathlib.Core.Bool.{true};
 ghost use mathlib.Core.List.{List, [], _∷_, _++_};
 ghost use Prim.Native.Nat.{ℕ, _<_, _≤_};
 ghost use lib.ListN.{length, take};
+ghost use Rattle.definitions.specs.Edit.{changeOf};
 ghost use Rattle.report.specs.Lines.{refusalLine};
-ghost use Rattle.report.specs.Edits.{isEdit, lineOf, byteOf, session, bytesOf, endOf};
+ghost use Rattle.report.specs.Edits.{isEdit, saysOf, lineOf, byteOf, session, bytesOf, endOf};
+ghost use Rattle.report.specs.Says.{Says, Within};
 ghost use Rattle.report.specs.Kept.{Keeps, Answers, Stands};
 ghost use Rattle.report.specs.Reads.{Lengthens};
+use crate::asked;
+use crate::asked::Asked;
+use crate::asked::Program;
 use crate::lines;
 use definitions::Change;
 use frames::edit_frame;
@@ -17,10 +23,17 @@ pub struct Line {
     pub count: usize,
 }
 
-// A line as a byte leaves it, and how many bytes of the space are to be printed.
+// What is to be printed: bytes at the front of the space, then the rows of so many groups of the table, each so wide.
+pub struct Said {
+    pub bytes: usize,
+    pub groups: u32,
+    pub width: usize,
+}
+
+// A line as a byte leaves it, and what is to be printed.
 pub struct Turn {
     pub line: Line,
-    pub printed: usize,
+    pub said: Said,
 }
 
 // A line with the bytes that were added to it, and how many these are.
@@ -78,58 +91,129 @@ fn wide(x: u32) -> usize
     x as usize
 }
 
-// Writes a refusal over the front of the space, and answers its length.
-fn refuse(number: u32, space: &mut [u8]) -> usize
-    requires { ⌜ 5 ≤ length (now space) ⌝ }
-    ensures { λ r. ⌜ (take r (now (space .exit)) ≡ refusalLine number) × (r ≤ length (now (space .exit))) ⌝ }
+// Bytes of the space, and no rows.
+fn front(bytes: usize) -> Said
+    ensures { λ r. ⌜ r ≡ record { bytes = bytes; groups = 0; width = 0 } ⌝ }
 {
-    lines::refusal_line(number, &mut space[..5]);
-    5
+    Said {
+        bytes,
+        groups: 0,
+        width: 0,
+    }
 }
 
-// Makes the edit of a line, writes what it prints over the front of the space, and answers how many bytes that is.
-fn answer(map: &mut [u8], table: &mut [u16], line: &[u8], space: &mut [u8]) -> usize
+// Writes a refusal over the front of the space.
+fn refuse(number: u32, space: &mut [u8]) -> Said
     requires { ⌜ 5 ≤ length (now space) ⌝ }
-    ensures { λ r. ⌜ Answers r (now (map .exit)) (now (table .exit)) (now (space .exit))
-        (lineOf (now (map .entry)) (now (table .entry)) (now (line .entry)) (now (space .entry))) ⌝ }
+    ensures { λ r. ⌜ ((table : List ℕ) → Says r table (now (space .exit)) (refusalLine number)) ⌝ }
 {
-    if !is_edit(edit_frame::change_of(line)) {
-        return refuse(18, space);
-    }
+    lines::refusal_line(number, &mut space[..5]);
+    front(5)
+}
+
+// Makes the edit of a line, and writes what it prints over the front of the space.
+fn make_edit(p: Program, map: &mut [u8], table: &mut [u16], line: &[u8], space: &mut [u8]) -> Said
+    requires { ⌜ (5 ≤ length (now space)) × (isEdit (changeOf (now line)) ≡ true) ⌝ }
+    ensures { λ r. ⌜ Answers r (now (map .exit)) (now (table .exit)) (now (space .exit))
+        (lineOf p (now (map .entry)) (now (table .entry)) (now (line .entry)) (now (space .entry))) ⌝ }
+{
     let e = engine::edit::edit(map, table, line, space);
     if e.number != 0 {
         return refuse(e.number, space);
     }
-    wide(e.moves) * 23
+    front(wide(e.moves) * 23)
+}
+
+// The map as frames, over the front of the space.
+fn say_frames(map: &[u8], table: &[u16], space: &mut [u8]) -> Said
+    requires { ⌜ 5 ≤ length (now space) ⌝ }
+    ensures { λ r. ⌜ Says r (now (table .entry)) (now (space .exit)) (saysOf Asked.Frames (now (map .entry)) (now (table .entry)) (now (space .entry))) ⌝ }
+{
+    let w = engine::write::write(map, space);
+    if w.number != 0 {
+        return refuse(w.number, space);
+    }
+    front(w.bytes)
+}
+
+// The table as rows, which are printed row by row.
+fn say_rows(map: &[u8], table: &[u16], space: &mut [u8]) -> Said
+    requires { ⌜ 5 ≤ length (now space) ⌝ }
+    ensures { λ r. ⌜ Says r (now (table .entry)) (now (space .exit)) (saysOf Asked.Rows (now (map .entry)) (now (table .entry)) (now (space .entry))) ⌝ }
+{
+    let s = engine::load::sizes_of(map);
+    if s.number != 0 {
+        return refuse(14, space);
+    }
+    let width = wide(s.places);
+    if table.len() < wide(s.groups) * width {
+        return refuse(16, space);
+    }
+    Said {
+        bytes: 0,
+        groups: s.groups,
+        width,
+    }
+}
+
+// What a line that is no edit asks for.
+fn say(a: Asked, map: &[u8], table: &[u16], space: &mut [u8]) -> Said
+    requires { ⌜ 5 ≤ length (now space) ⌝ }
+    ensures { λ r. ⌜ Says r (now (table .entry)) (now (space .exit)) (saysOf a (now (map .entry)) (now (table .entry)) (now (space .entry))) ⌝ }
+{
+    match a {
+        Asked::Frames => say_frames(map, table, space),
+        Asked::Rows => say_rows(map, table, space),
+        Asked::Nothing => refuse(18, space),
+    }
+}
+
+// Makes the edit of a line or does what else it asks for; what it prints is over the front of the space, or rows of the table.
+fn answer(p: Program, map: &mut [u8], table: &mut [u16], line: &[u8], space: &mut [u8]) -> Said
+    requires { ⌜ 5 ≤ length (now space) ⌝ }
+    ensures { λ r. ⌜ Answers r (now (map .exit)) (now (table .exit)) (now (space .exit))
+        (lineOf p (now (map .entry)) (now (table .entry)) (now (line .entry)) (now (space .entry))) ⌝ }
+{
+    if is_edit(edit_frame::change_of(line)) {
+        return make_edit(p, map, table, line, space);
+    }
+    say(asked::asked_of(p, line), map, table, space)
 }
 
 // A line has ended: its edit is made.
-fn on_line(map: &mut [u8], table: &mut [u16], l: Line, space: &mut [u8]) -> usize
+fn on_line(p: Program, map: &mut [u8], table: &mut [u16], l: Line, space: &mut [u8]) -> Said
     requires { ⌜ (5 ≤ length (now space)) × (l .count ≤ 15) ⌝ }
-    ensures { λ r. ⌜ (r ≤ length (now (space .exit))) × ((xs : List ℕ) → Keeps l xs → Answers r (now (map .exit)) (now (table .exit)) (now (space .exit))
-        (lineOf (now (map .entry)) (now (table .entry)) xs (now (space .entry)))) ⌝ }
+    ensures { λ r. ⌜ Within r (now (table .exit)) (now (space .exit)) × ((xs : List ℕ) → Keeps l xs → Answers r (now (map .exit)) (now (table .exit)) (now (space .exit))
+        (lineOf p (now (map .entry)) (now (table .entry)) xs (now (space .entry)))) ⌝ }
 {
     let bytes = l.bytes;
     let n = l.count;
-    answer(map, table, &bytes[..n], space)
+    answer(p, map, table, &bytes[..n], space)
 }
 
 // One byte more of the lines.
-pub fn on_byte(map: &mut [u8], table: &mut [u16], l: Line, b: u8, space: &mut [u8]) -> Turn
+pub fn on_byte(
+    p: Program,
+    map: &mut [u8],
+    table: &mut [u16],
+    l: Line,
+    b: u8,
+    space: &mut [u8],
+) -> Turn
     requires { ⌜ (5 ≤ length (now space)) × (l .count ≤ 15) ⌝ }
-    ensures { λ r. ⌜ (r .line .count ≤ 15) × (r .printed ≤ length (now (space .exit))) × ((xs : List ℕ) → Keeps l xs → Stands r (now (map .exit)) (now (table .exit)) (now (space .exit))
-        (byteOf (now (map .entry)) (now (table .entry)) xs b (now (space .entry)))) ⌝ }
+    ensures { λ r. ⌜ (r .line .count ≤ 15) × Within (r .said) (now (table .exit)) (now (space .exit)) × ((xs : List ℕ) → Keeps l xs → Stands r (now (map .exit)) (now (table .exit)) (now (space .exit))
+        (byteOf p (now (map .entry)) (now (table .entry)) xs b (now (space .entry)))) ⌝ }
 {
     if b != 10 {
         return Turn {
             line: longer(l, b),
-            printed: 0,
+            said: front(0),
         };
     }
-    let printed = on_line(map, table, l, space);
+    let said = on_line(p, map, table, l, space);
     Turn {
         line: no_line(),
-        printed,
+        said,
     }
 }
 
@@ -152,33 +236,43 @@ fn add(l: Line, read: &[u8]) -> Added
 }
 
 // The bytes read, up to the first line that ends: what it prints is in the space, which the next line needs.
-pub fn on_bytes(map: &mut [u8], table: &mut [u16], l: Line, read: &[u8], space: &mut [u8]) -> Run
+pub fn on_bytes(
+    p: Program,
+    map: &mut [u8],
+    table: &mut [u16],
+    l: Line,
+    read: &[u8],
+    space: &mut [u8],
+) -> Run
     requires { ⌜ (5 ≤ length (now space)) × (l .count ≤ 15) × (0 < length (now read)) ⌝ }
-    ensures { λ r. ⌜ (r .turn .line .count ≤ 15) × (r .turn .printed ≤ length (now (space .exit))) × (0 < r .used) × (r .used ≤ length (now (read .entry)))
+    ensures { λ r. ⌜ (r .turn .line .count ≤ 15) × Within (r .turn .said) (now (table .exit)) (now (space .exit)) × (0 < r .used) × (r .used ≤ length (now (read .entry)))
         × ((xs : List ℕ) → Keeps l xs → Stands (r .turn) (now (map .exit)) (now (table .exit)) (now (space .exit))
-        (bytesOf (now (space .entry)) (session (now (map .entry)) (now (table .entry)) xs) (take (r .used) (now (read .entry))))) ⌝ }
+        (bytesOf p (now (space .entry)) (session (now (map .entry)) (now (table .entry)) xs) (take (r .used) (now (read .entry))))) ⌝ }
 {
     let added = add(l, read);
     let n = added.used;
     let line = added.line;
     if n == read.len() {
         return Run {
-            turn: Turn { line, printed: 0 },
+            turn: Turn {
+                line,
+                said: front(0),
+            },
             used: n,
         };
     }
-    let turn = on_byte(map, table, line, read[n], space);
+    let turn = on_byte(p, map, table, line, read[n], space);
     Run { turn, used: n + 1 }
 }
 
 // The end of the lines.
-pub fn on_end(map: &mut [u8], table: &mut [u16], l: Line, space: &mut [u8]) -> usize
+pub fn on_end(p: Program, map: &mut [u8], table: &mut [u16], l: Line, space: &mut [u8]) -> Said
     requires { ⌜ (5 ≤ length (now space)) × (l .count ≤ 15) ⌝ }
-    ensures { λ r. ⌜ (r ≤ length (now (space .exit))) × ((xs : List ℕ) → Keeps l xs → Answers r (now (map .exit)) (now (table .exit)) (now (space .exit))
-        (endOf (now (map .entry)) (now (table .entry)) xs (now (space .entry)))) ⌝ }
+    ensures { λ r. ⌜ Within r (now (table .exit)) (now (space .exit)) × ((xs : List ℕ) → Keeps l xs → Answers r (now (map .exit)) (now (table .exit)) (now (space .exit))
+        (endOf p (now (map .entry)) (now (table .entry)) xs (now (space .entry)))) ⌝ }
 {
     if l.count == 0 {
-        return 0;
+        return front(0);
     }
-    on_line(map, table, l, space)
+    on_line(p, map, table, l, space)
 }

@@ -1,6 +1,7 @@
 -- `report::edits::on_byte` meets its contract: the byte 10 ends the line, another is one more. Assumes nothing.
 use mathlib.Core.Path.{_≡_, refl}
 use native.Mathlib.Omega.{arith}
+use Rattle.report.specs.Says.{says-none}
 use Rattle.report.specs.Kept.{byte-other, byte-10, line-none}
 use borrow.Author.Needs.{needs}
 use Rattle.report.proofs.edits.on_byte.Statement.{statement}
@@ -11,13 +12,18 @@ longer-requires c κs = search needs
 
 returns : tie.Need-returns
 returns c =
-    let s = c .before .before .before .before .before in
-    let g = c .longer .ensures in (
+    let t = c .before .before in
+    let s = t .before .before .before .before in
+    let g = c .before .longer .ensures in
+    rw (c .front .ensures) (
       g .0,
-      omega arith,
-      λ xs k. rw (byte-other (s .args .map .now) (s .args .table .now) xs (s .args .b) (s .args .space .now) (c .before .if1 .taken))
-          (record { lent = record { frames-are = refl; table-is = refl; printed = refl; within = omega arith }; line = g .1 xs k }),
+      says-none (s .args .table .now) (s .args .space .now) .within,
+      λ xs k. rw (byte-other (s .args .p) (s .args .map .now) (s .args .table .now) xs (s .args .b) (s .args .space .now) (t .if1 .taken))
+          (record { lent = record { frames-are = refl; table-is = refl; says = says-none (s .args .table .now) (s .args .space .now) }; line = g .1 xs k }),
     )
+
+front-requires : tie.Need-front-requires
+front-requires c κs = search needs
 
 on-line-requires : tie.Need-on-line-requires
 on-line-requires c κs = search needs
@@ -41,8 +47,8 @@ returns-2 c =
     let n = c .no-line .ensures in (
       omega (arith, n .count),
       a .0,
-      λ xs k. rw (byte-10 (s .args .map .now) (s .args .table .now) xs (s .args .b) (s .args .space .now) (c .before .before .before .before .before .before .before .before .before .before .before .if1 .left))
-          (record { lent = a .1 xs k; line = rw (line-none (s .args .map .now) (s .args .table .now) xs (s .args .space .now)) n }),
+      λ xs k. rw (byte-10 (s .args .p) (s .args .map .now) (s .args .table .now) xs (s .args .b) (s .args .space .now) (c .before .before .before .before .before .before .before .before .before .before .before .if1 .left))
+          (record { lent = a .1 xs k; line = rw (line-none (s .args .p) (s .args .map .now) (s .args .table .now) xs (s .args .space .now)) n }),
     )
 
 pub on-byte-spec : {M : Type 1} → statement M
@@ -50,6 +56,7 @@ on-byte-spec =
     tie.close
     (tie.spec
     longer-requires
+    front-requires
     returns
     on-line-requires
     no-line-requires

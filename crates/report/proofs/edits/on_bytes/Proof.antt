@@ -1,8 +1,9 @@
 -- `report::edits::on_bytes` meets its contract: the bytes before the first 10, and that byte. Assumes nothing.
 use mathlib.Core.List.{_++_}
-use Prim.Native.Nat.{_<_}
+use Prim.Native.Nat.{_^_, _<_}
 use native.Mathlib.Omega.{arith}
 use lib.ListN.{length, take}
+use Rattle.report.specs.Says.{says-none}
 use Rattle.report.specs.Reads.{run-none, run-byte}
 use borrow.Author.Needs.{needs}
 use Rattle.report.proofs.edits.on_bytes.Statement.{statement}
@@ -13,10 +14,13 @@ add-requires c κs = search needs
 
 returns : tie.Need-returns
 returns c =
-    let a = c .before .before in
+    let a = c .before .before .before in
     let s = a .before .before .before .before .before in
     let e = a .add .ensures in
-    (e .0, omega arith, omega (arith, s .pre .2, c .if1 .taken), e .1, λ xs k. run-none _ (s .args .map .now) (s .args .table .now) (s .args .space .now) xs _ (e .2) (e .3 xs k))
+    rw (c .front .ensures) (e .0, says-none (s .args .table .now) (s .args .space .now) .within, omega (arith, s .pre .2, c .before .if1 .taken), e .1, λ xs k. run-none (s .args .p) _ (s .args .map .now) (s .args .table .now) (s .args .space .now) xs _ (e .2) (e .3 xs k))
+
+front-requires : tie.Need-front-requires
+front-requires c κs = search needs
 
 shared-slice-read-on-byte : tie.Need-shared-slice-read-on-byte
 shared-slice-read-on-byte c = search needs
@@ -24,8 +28,15 @@ shared-slice-read-on-byte c = search needs
 on-byte-requires : tie.Need-on-byte-requires
 on-byte-requires c κs = search needs
 
-add-t10 : tie.Need-add-t10
-add-t10 c = search needs
+-- what was read is no longer than a slice can be
+fits : (s : tie.Start) → length (s .args .read .now) < 2 ^ 64
+fits s = search (needs, s .good)
+
+add-t11 : tie.Need-add-t11
+add-t11 c =
+    let b = c .before .before .before .before .before .before in
+    let a = b .before .before .before .before .before .before .before in
+    omega (arith, a .add .ensures .1, b .before .before .before .before .before .if1 .left, fits (a .before .before .before .before .before))
 
 same-length : tie.Need-same-length
 same-length c = search needs
@@ -49,7 +60,7 @@ returns-2 c =
       b .on-byte .ensures .1,
       omega arith,
       omega (arith, i),
-      λ xs k. run-byte _ (s .args .map .now) (s .args .table .now) (s .args .space .now) xs read n _ _ _ i (e .2) (b .on-byte .ensures .2 (xs ++ take n read) (e .3 xs k)),
+      λ xs k. run-byte (s .args .p) _ (s .args .map .now) (s .args .table .now) (s .args .space .now) xs read n _ _ _ i (e .2) (b .on-byte .ensures .2 (xs ++ take n read) (e .3 xs k)),
     )
 
 pub on-bytes-spec : {M : Type 1} → statement M
@@ -57,10 +68,11 @@ on-bytes-spec =
     tie.close
     (tie.spec
     add-requires
+    front-requires
     returns
     shared-slice-read-on-byte
     on-byte-requires
-    add-t10
+    add-t11
     same-length
     same-length-2
     same-length-3

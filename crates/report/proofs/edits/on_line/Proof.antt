@@ -33,7 +33,7 @@ returns : tie.Need-returns
 returns c =
     let s = c .before .before .before .before .before .before .before .before .before .before .before .before .before .before .before in
     let a = c .before .before .before .before .before .before .answer .ensures in
-    (a .within, λ xs k. rw (sym (line-kept (s .args .l) xs k (s .args .map .now) (s .args .table .now) (s .args .space .now))) a)
+    (a .says .within, λ xs k. rw (sym (line-kept (s .args .p) (s .args .l) xs k (s .args .map .now) (s .args .table .now) (s .args .space .now))) a)
 
 pub on-line-spec : {M : Type 1} → statement M
 on-line-spec =

@@ -1,0 +1,2 @@
+-- What the proofs need of the bytes that are read.
+pub mod Gathering
