@@ -7,12 +7,10 @@
  * many edits.
  */
 #define _POSIX_C_SOURCE 200809L
-#include "../include/crush_place.h"
 #include "common.h"
-#include "exports.h"
 #include "plain.h"
 
-enum { MOVE = 23, CAUSE = 20, HASHES = 100000 };
+enum { CAUSE = 20 }; /* where in a move its cause stands */
 
 static uint8_t map[MOST], map2[MOST], space[SPACE], space2[SPACE];
 static uint16_t table[PLACES], table2[PLACES], edited[PLACES];
@@ -30,15 +28,15 @@ struct pair {
     double engine, plain;
 };
 
-static void print_pair(const char *name, struct pair best, double calls) { printf("%s %.1f %.1f\n", name, best.engine / calls, best.plain / calls); }
+static void print_pair(const char *name, struct pair best) { printf("%s %.1f %.1f\n", name, best.engine, best.plain); }
 
 static void load_once(struct pair *best) {
     double a = now();
-    uint32_t x = bench_load(map, len);
+    struct crush_sizes x = crush_load(map, len);
     double b = now();
     uint32_t y = plain_load(map, len);
     double c = now();
-    expect(x == 0 && y == 0, "load");
+    expect(x.number == 0 && y == 0 && x.groups == groups, "load");
     keep_least(&best->engine, b - a);
     keep_least(&best->plain, c - b);
 }
@@ -63,7 +61,7 @@ static void fill_once(struct pair *best) {
     memset(table, 0x5a, sizeof table);
     memset(table2, 0x5a, sizeof table2);
     double a = now();
-    struct bench_filling x = bench_fill(map, len, table, PLACES);
+    struct crush_filled x = crush_fill(map, len, table, PLACES);
     double b = now();
     uint32_t y = plain_fill(map, len, table2, PLACES);
     double c = now();
@@ -80,14 +78,14 @@ static uint32_t edit_once(struct pair *best, const char *frame) {
     memcpy(map2, map, len);
     memcpy(table2, table, sizeof table);
     double a = now();
-    struct bench_made x = bench_edit(map, len, table, PLACES, f, 14, space, SPACE);
+    struct crush_edited x = crush_edit(map, len, table, PLACES, f, CRUSH_FRAME, space, SPACE);
     double b = now();
-    struct plain_made y = plain_edit(map2, len, table2, PLACES, f, 14, space2, SPACE);
+    struct plain_made y = plain_edit(map2, len, table2, PLACES, f, CRUSH_FRAME, space2, SPACE);
     double c = now();
     expect(x.number == 0 && y.number == 0 && x.moves == y.moves, "edit: number or moves");
     expect(memcmp(map, map2, len) == 0 && memcmp(table, table2, sizeof table) == 0, "edit: the map or the table");
     for (size_t i = 0; i < x.moves; i++)
-        expect(memcmp(space + MOVE * i, space2 + MOVE * i, CAUSE) == 0, "edit: a move");
+        expect(memcmp(space + CRUSH_MOVE * i, space2 + CRUSH_MOVE * i, CAUSE) == 0, "edit: a move");
     keep_least(&best->engine, b - a);
     keep_least(&best->plain, c - b);
     return x.moves;
@@ -105,21 +103,6 @@ static void ceiling_once(struct pair *best, uint32_t drive) {
     keep_least(&best->plain, c - b);
 }
 
-/* Hashes in a chain, so that none begins before the one ahead of it has ended. */
-static void hash_once(struct pair *best) {
-    uint32_t x = 0, y = 0;
-    double a = now();
-    for (uint32_t i = 0; i < HASHES; i++)
-        x = bench_hash(x, i);
-    double b = now();
-    for (uint32_t i = 0; i < HASHES; i++)
-        y = plain_hash(y, i);
-    double c = now();
-    expect(x == y, "hash");
-    keep_least(&best->engine, b - a);
-    keep_least(&best->plain, c - b);
-}
-
 /* One value of a drive changed and set back, again and again: only few places move. After each edit the table has to be a fresh fill, which is
  * timed too, so that edit and fill stand beside each other. */
 static void edits(const char *name, int rounds, unsigned kind, uint32_t drive, uint32_t changed, uint32_t back, struct pair *fill) {
@@ -133,22 +116,22 @@ static void edits(const char *name, int rounds, unsigned kind, uint32_t drive, u
         fill_once(fill);
         expect(memcmp(edited, table, places * sizeof *table) == 0, "edit: a fresh fill");
     }
-    print_pair(name, best, 1);
+    print_pair(name, best);
     printf("moves-%s %u %d\n", name, moves, 2 * rounds);
 }
 
 static void take_map(const char *path) {
     len = read_map(path, map);
-    uint32_t number = bench_load(map, len);
-    if (number != 0 || plain_load(map, len) != 0) {
-        fprintf(stderr, "%s: refused, %u and %u\n", path, number, plain_load(map, len));
+    struct crush_sizes sizes = crush_load(map, len);
+    if (sizes.number != 0 || plain_load(map, len) != 0) {
+        fprintf(stderr, "%s: refused, %u and %u\n", path, sizes.number, plain_load(map, len));
         exit(1);
     }
-    groups = field(map + 2, 8);
+    groups = sizes.groups;
 }
 
 int main(int argc, char **argv) {
-    struct pair load = {0, 0}, place = {0, 0}, fill = {0, 0}, ceiling = {0, 0}, hash = {0, 0};
+    struct pair load = {0, 0}, place = {0, 0}, fill = {0, 0}, ceiling = {0, 0};
     if (argc != 4 || (strcmp(argv[1], "fill") != 0 && strcmp(argv[1], "all") != 0)) {
         fprintf(stderr, "usage: bench fill|all MAP ROUNDS\n");
         return 2;
@@ -158,27 +141,24 @@ int main(int argc, char **argv) {
     for (int i = 0; i < rounds; i++)
         fill_once(&fill);
     if (strcmp(argv[1], "fill") == 0) {
-        print_pair("fill", fill, 1);
+        print_pair("fill", fill);
         return 0;
     }
     for (int i = 0; i < 50 * rounds; i++)
         load_once(&load);
-    print_pair("load", load, 1);
+    print_pair("load", load);
     for (int i = 0; i < 50 * rounds; i++)
         place_once(&place, (uint32_t)i * 101 % groups);
-    print_pair("place", place, 1);
-    for (int i = 0; i < rounds; i++)
-        hash_once(&hash);
-    print_pair("hash", hash, HASHES);
+    print_pair("place", place);
     /* the first drive of group 0 fails and comes back, then loses half of its weight and has it again */
     uint32_t drive = table[0];
     expect(drive < 1024, "fill: group 0 begins with a drive");
     uint32_t weight = weight_of(map, drive);
     for (int i = 0; i < rounds; i++)
         ceiling_once(&ceiling, drive);
-    print_pair("ceiling", ceiling, 1);
+    print_pair("ceiling", ceiling);
     edits("acceptance", rounds, 0x21, drive, 0, 0x10000, &fill);
     edits("weight", rounds, 0x22, drive, weight / 2, weight, &fill);
-    print_pair("fill", fill, 1);
+    print_pair("fill", fill);
     return 0;
 }

@@ -1,14 +1,15 @@
-/* What the programs of the benchmark share: the clock, the best of all rounds, and reading a map's text. */
+/* What the programs of the benchmark share: the engine's calls, the clock, the best of all rounds, and reading a map's text. */
 #ifndef COMMON_H
 #define COMMON_H
 
-#include <stdint.h>
+#include "../include/crush_place.h"
+
 #include <stdio.h>
 #include <stdlib.h>
 #include <string.h>
 #include <time.h>
 
-enum { MOST = 65537, PLACES = 65536 * 4, SPACE = 1 << 20, FIRST = 11, LINE = 23 };
+enum { MOST = CRUSH_MAP_MOST + 1, PLACES = 65536 * 4, SPACE = 1 << 20, FIRST = 11, LINE = 23 };
 
 /* The thread's own time on the processor, so that other programs disturb it little. */
 static inline double now(void) {

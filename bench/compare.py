@@ -3,25 +3,17 @@
 
 usage: compare.py DIR ROUNDS: DIR holds the program and takes the maps. The exit status is not 0 where results differ."""
 import pathlib
-import re
 import sys
 
 import maps
 import measure
 
 
-def older(text):
-    """The map as builds before change 6 take it, buckets without their weight."""
-    return re.sub(r"(?m)^(02.{8}).{8}$", r"\1", text)
-
-
 def main():
     folder, rounds = pathlib.Path(sys.argv[1]), sys.argv[2]
     rows = [["before / now", "load", "fill", "edit 21", "edit 22"]]
     for name, title, text in maps.COMPARED:
-        before = folder / f"{name}.older.map"
-        before.write_text(older(text()))
-        got = measure.run(folder, ["against", before], name, text(), rounds)
+        got = measure.run(folder, ["against"], name, text(), rounds)
         calls = ("load", "fill", "acceptance", "weight")
         # a map that the build before refuses has no ratios
         rows.append([title] + [f"{got[call][0] / got[call][1]:.2f}" if got else "-" for call in calls])

@@ -11,13 +11,12 @@
  */
 #define _POSIX_C_SOURCE 200809L
 #include "common.h"
-#include "exports.h"
 
 #include <crush/builder.h>
 #include <crush/hash.h>
 #include <crush/mapper.h>
 
-enum { DEVICES = 1024, BUCKETS = 256, CHILDREN = 64, STEPS = 16, BASE = 65536, HOLE = 0xffff, STRAW = 1, TRIES = 50 };
+enum { DEVICES = 1024, BUCKETS = 256, CHILDREN = 64, STEPS = 16, BASE = 65536, STRAW = 1, TRIES = 50 };
 enum { TAKE = 1, INDEPENDENT = 3, EMIT = 4, THROUGH = 5 };
 
 static uint8_t text[MOST];
@@ -116,7 +115,7 @@ int main(int argc, char **argv) {
         return 2;
     }
     size_t len = read_map(argv[1], text);
-    if (bench_load(text, len) != 0)
+    if (crush_load(text, len).number != 0)
         fail("the map is refused");
     struct crush_map *map = crush_create();
     const uint8_t *line;
@@ -134,7 +133,7 @@ int main(int argc, char **argv) {
     for (int i = 0; i < atoi(argv[2]); i++) {
         int whole = 0;
         double a = now();
-        struct bench_filling filled = bench_fill(text, len, table, PLACES);
+        struct crush_filled filled = crush_fill(text, len, table, PLACES);
         keep_least(&engine, now() - a);
         if (filled.number != 0 || filled.places != (size_t)groups * (size_t)width)
             fail("the places of fill are off");
@@ -150,7 +149,7 @@ int main(int argc, char **argv) {
     }
     int holes = 0, their_holes = 0;
     for (int i = 0; i < groups * width; i++) {
-        holes += table[i] == HOLE;
+        holes += table[i] == CRUSH_PLACE_HOLE;
         their_holes += lists[i] == CRUSH_ITEM_NONE;
     }
     printf("libcrush %.1f %.1f\nholes %d %d\n", engine, theirs, holes, their_holes);

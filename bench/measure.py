@@ -71,15 +71,15 @@ def span(cells):
 
 def compared(folder, rounds, libcrush):
     """The tables of the maps that are compared, and the fills that an edit of each kind takes, by map."""
-    ratios = [["plain C / engine", "load", "place", "fill", "fill*", "edit 21", "edit 22", "ceiling", "hash"] + ["libcrush"] * libcrush]
-    times = [["the engine's own times", "load", "place", "fill", "edit 21", "edit 22", "ceiling", "hash"]]
+    ratios = [["plain C / engine", "load", "place", "fill", "fill*", "edit 21", "edit 22", "ceiling"] + ["libcrush"] * libcrush]
+    times = [["the engine's own times", "load", "place", "fill", "edit 21", "edit 22", "ceiling"]]
     fills = [["in fills of the engine", "edit 21", "edit 22", "ceiling", "moves 21", "moves 22"]]
     rates = [["mappings a second", "engine", "libcrush"]]
     filled, holes, shares = {}, [], []
     for name, title, text in [*maps.COMPARED, maps.BLOCKS]:
         got = run(folder, ["bench", "all"], name, text(), rounds)
         filled[name] = got["fill"]
-        columns = [got[call] for call in ("load", "place", "fill", "acceptance", "weight", "ceiling", "hash")]
+        columns = [got[call] for call in ("load", "place", "fill", "acceptance", "weight", "ceiling")]
         ratios.append([title] + [ratio(pair) for pair in columns])
         ratios[-1].insert(4, ratio(run(folder, ["bench-branchless", "fill"], name, text(), rounds)["fill"]))
         if libcrush:

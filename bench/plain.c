@@ -807,5 +807,3 @@ struct plain_limit plain_ceiling(const uint8_t *text, size_t len, const uint16_t
     free(fresh);
     return r;
 }
-
-uint32_t plain_hash(uint32_t p, uint32_t q) { return hash2(p, q); }

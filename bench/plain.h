@@ -29,6 +29,5 @@ uint32_t plain_fill(const uint8_t *text, size_t len, uint16_t *table, size_t tab
 struct plain_made plain_edit(uint8_t *text, size_t len, uint16_t *table, size_t table_len, const uint8_t *frame, size_t frame_len, uint8_t *space,
                              size_t space_len);
 struct plain_limit plain_ceiling(const uint8_t *text, size_t len, const uint16_t *table, size_t table_len, uint32_t device);
-uint32_t plain_hash(uint32_t p, uint32_t q); /* the hash of two */
 
 #endif
