@@ -5,17 +5,16 @@
  *
  * The count is kept by the breakpoint of hashes.gdb, under which the program runs. An archive has no other way to tell.
  */
-#include "../bench/exports.h"
 #include "../include/crush_place.h"
 
 #include <stdio.h>
 #include <string.h>
 
-enum { MOST = 65537, PLACES = 32768, SPACE = 1 << 20, FRAME = 14 };
+enum { PLACES = 32768, SPACE = CRUSH_MOVE * PLACES };
 
 volatile unsigned long hashes;
 
-static uint8_t map[MOST], edited[MOST], space[SPACE];
+static uint8_t map[CRUSH_MAP_MOST], edited[CRUSH_MAP_MOST], space[SPACE];
 static uint16_t table[PLACES];
 static size_t len;
 
@@ -28,7 +27,7 @@ static uint32_t place(uint32_t group) {
 
 static uint32_t fill(void) {
     hashes = 0;
-    return bench_fill(map, len, table, PLACES).number;
+    return crush_fill(map, len, table, PLACES).number;
 }
 
 static uint32_t edit(const char *frame) {
@@ -36,7 +35,7 @@ static uint32_t edit(const char *frame) {
         return 1;
     memcpy(edited, map, len);
     hashes = 0;
-    return bench_edit(edited, len, table, PLACES, (const uint8_t *)frame, FRAME, space, SPACE).number;
+    return crush_edit(edited, len, table, PLACES, (const uint8_t *)frame, CRUSH_FRAME, space, SPACE).number;
 }
 
 int main(int argc, char **argv) {
@@ -45,7 +44,7 @@ int main(int argc, char **argv) {
         fprintf(stderr, "usage: hashes FILE\n");
         return 2;
     }
-    char line[64], frame[FRAME + 1];
+    char line[64], frame[CRUSH_FRAME + 1];
     unsigned long calls = 0, without = 0, made = 0, wrong = 0;
     while (fgets(line, sizeof line, f) != NULL) {
         unsigned long group, expected;

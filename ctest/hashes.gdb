@@ -1,4 +1,4 @@
-# Counts every call of the hash of two, in both archives, and goes on: the condition raises the count and is never met.
+# Counts every call of the hash of two and goes on: the condition raises the count and is never met.
 set debuginfod enabled off
 break 'jenkins::hash2' if hashes++ < 0
 run

@@ -1,17 +1,18 @@
 #!/usr/bin/env python3
-"""Writes vectors.txt, days.txt, ceilings.txt and hashes.txt: calls of the engine, and what a CRUSH by another hand answers or does.
+"""Writes vectors.txt, days.txt, ceilings.txt, calls.txt and hashes.txt: calls of the engine, and what a CRUSH by another hand answers or does.
 
 usage: make_vectors.py --oracle DIR [--level L] > vectors.txt
        make_vectors.py --oracle DIR [--level L] --days > days.txt
        make_vectors.py --oracle DIR [--level L] --ceilings > ceilings.txt
+       make_vectors.py --oracle DIR [--level L] --calls > calls.txt
        make_vectors.py --oracle DIR [--level L] --hashes > hashes.txt
 
 DIR holds the reference: crush.py, fill.py and gen.py; L is the last change of document 02 that counts. In vectors.txt, days.txt and ceilings.txt a
 line is a call: the map's bytes in hexadecimal (or - for none); then of crush_place the group, the size of the space, and the answer: number, places,
 tries, and the bytes written in hexadecimal (or -); of crush_day_group the show, the day, and the answer: number and group; of crush_ceiling the
-table, four hexadecimal digits a place (or - for none), the drive, and the answer: number, groups and moves. hashes.txt has the lines of each map and
-behind them its calls (place, fill and edit), each with how many of the tests of a device that are made for it meet an acceptance other than 65,536
-and 0.
+table, four hexadecimal digits a place (or - for none), the drive, and the answer: number, groups and moves. calls.txt has calls of crush_load,
+crush_fill, crush_edit, crush_write and crush_day_drives in the form that calls_test.c tells. hashes.txt has the lines of each map and behind them its
+calls (place, fill and edit), each with how many of the tests of a device that are made for it meet an acceptance other than 65,536 and 0.
 """
 import argparse
 import os
@@ -24,6 +25,7 @@ ap.add_argument('--oracle', required=True)
 ap.add_argument('--level', type=int, default=6)
 ap.add_argument('--days', action='store_true')
 ap.add_argument('--ceilings', action='store_true')
+ap.add_argument('--calls', action='store_true')
 ap.add_argument('--hashes', action='store_true')
 ARGS = ap.parse_args()
 sys.path[:0] = [ARGS.oracle, os.path.join(os.path.dirname(os.path.abspath(__file__)), '..', 'tools')]
@@ -142,6 +144,168 @@ def limits():
                 ceiling(*call)
 
 
+def text_of(data):
+    """Bytes as a word: digits stand for themselves, a comma for a newline and %xx for any other byte."""
+    return ''.join(chr(byte) if byte in b'0123456789abcdef' else ',' if byte == 10 else f'%{byte:02x}' for byte in data) or '-'
+
+
+def places_of(table):
+    return ''.join(f'{place:04x}' for place in table) or '-'
+
+
+def altered_in(before, after, spell):
+    """Where and how what an edit leaves differs from what it was lent, of the same length."""
+    assert len(before) == len(after)
+    found, at = [], 0
+    while at < len(before):
+        end = at
+        while end < len(before) and before[end] != after[end]:
+            end += 1
+        if end > at:
+            found += spell(at, after[at:end])
+        at = end + 1
+    return ','.join(found) or '-'
+
+
+class Lent:
+    """The map and the table that the calls of calls.txt are lent."""
+
+    def __init__(self, data, table):
+        self.data, self.table = data, table
+        self.map = crush.load(data, ARGS.level)
+        print('map', text_of(data))
+        self.lend(table)
+
+    def lend(self, table):
+        self.table = table
+        print('table', places_of(table))
+
+    def is_refused(self):
+        return isinstance(self.map, int)
+
+    def load(self):
+        print('load', *((self.map, 0, 0) if self.is_refused() else (0, self.map.G, self.map.W)))
+
+    def fill(self, room):
+        space = [crush.HOLE] * room
+        number, places = (14, 0) if self.is_refused() else crush.fill(self.map, space)
+        assert space[:places] == self.table[:places]
+        print('fill', room, number, places)
+
+    def write(self, room):
+        space = bytearray(room)
+        number, count = (14, 0) if self.is_refused() else crush.write(self.map, space)
+        assert space[:count] == self.data[:count]
+        print('write', room, number, count)
+
+    def drives(self, show, day, room):
+        space = bytearray(room)
+        group = 0 if self.is_refused() else crush.day_group(self.map, show, day)
+        number, places, tries = crush.place(self.data, group, space, ARGS.level)
+        print('drives', show, day, room, number, 0 if number else group, places, tries, bytes(space[:2 * places]).hex() or '-')
+
+    def edit(self, frame, room):
+        """Answers the number and the moves. An edit that is made leaves its map and its table to the calls behind it."""
+        if self.is_refused():
+            done = crush.Result(14, self.map, self.table, [])
+        else:
+            done = crush.edit(self.map, self.table, frame, room, False)
+        data = self.data if done.number else crush.map_bytes(done.map)
+        in_map = altered_in(self.data, data, lambda at, values: [f'{at}={values.decode()}'])
+        in_table = altered_in(self.table, done.table, lambda at, values: [f'{at + i}={value:04x}' for i, value in enumerate(values)])
+        moves = b''.join(crush.move_frame(*move) for move in done.moves)
+        print('edit', text_of(frame), room, done.number, len(done.moves), in_map, in_table, text_of(moves))
+        self.data, self.map, self.table = data, done.map, done.table
+        return done.number, len(done.moves)
+
+
+def good_frames(rng, mp, count):
+    """Edits that are taken: of a drive that group 0 lies on, or of any."""
+    held = [n for n in crush.rule(mp, 0)[0] if n != crush.HOLE]
+    for _ in range(count):
+        drive = rng.choice(held * 2 + sorted(mp.devices))
+        weight = mp.devices[drive][0]
+        yield rng.choice((b'21%04x%08x' % (drive, rng.choice((0, 0, 65536, 32768, 1))),
+                          b'22%04x%08x' % (drive, rng.choice((0, 65535, weight // 2, 2 * weight % 65536, weight)))))
+
+
+def bad_frames(rng, mp):
+    """Edits that are refused with 18: malformed, of a drive that the map has not, and out of range by one and by more."""
+    drive = rng.choice(sorted(mp.devices))
+    absent = rng.choice([number for number in range(1025) if number not in mp.devices])
+    good = b'21%04x00000000' % drive
+    return [b'', b'21', good[:-1], good + b'0', good + b'\n', b'20' + good[2:], b'23' + good[2:], b'2' + good, good[:6] + b'0000000A', good[:6] + b'0000000 ',
+            b'21%04x%08x' % (drive, 65537), b'22%04x%08x' % (drive, 65536), b'22%04xffffffff' % drive, b'21%04x00000000' % absent, b'22%04x00000001' % absent,
+            b'21ffff00000000', b'\xb2\xb1' + good[2:]]
+
+
+def calls_of(rng, data):
+    """Calls on a map: each answered and each refused by what it is lent, and by two things at once."""
+    mp = crush.load(data, ARGS.level)
+    if isinstance(mp, int):
+        to = Lent(data, [0, crush.HOLE])
+        to.load()
+        to.fill(rng.choice((0, 2)))
+        to.write(rng.choice((0, len(data), len(data) + 1)))
+        to.drives(rng.getrandbits(32), rng.getrandbits(32), rng.choice((0, 64)))
+        to.edit(rng.choice((b'', b'21000000000000')), rng.choice((0, 230)))
+        return
+    fresh = crush.fresh_fill(mp)
+    to = Lent(data, fresh)
+    to.load()
+    for room in (len(fresh) - 1, len(fresh), len(fresh) + rng.randint(1, 3), *rng.sample((0, 1, len(fresh) // 2), 1)):
+        to.fill(room)
+    for room in (len(data) - 1, len(data), len(data) + rng.randint(1, 9), 0):
+        to.write(room)
+    for room in (2 * mp.W - 1, 2 * mp.W, 2 * mp.W + 1, 64, rng.randrange(2 * mp.W)):
+        to.drives(rng.choice((0, 1, 2 ** 32 - 1, rng.getrandbits(32))), rng.choice((0, 2 ** 32 - 1, rng.getrandbits(32))), room)
+    drive = rng.choice(sorted(set(fresh) - {crush.HOLE}) or sorted(mp.devices))
+    good, bad = b'21%04x00000000' % drive, bad_frames(rng, mp)
+    if any(step[0] == crush.FIRSTN for step in mp.steps):
+        to.edit(good, 23 * len(fresh))
+        to.edit(rng.choice(bad), 0)
+        to.lend(fresh[:-1])
+        to.edit(good, 23 * len(fresh))
+        return
+    for frame in rng.sample(bad, 3):
+        to.edit(frame, rng.choice((0, 23 * len(fresh))))
+    to.lend(fresh[:-1])
+    to.edit(rng.choice((good, rng.choice(bad))), 23 * len(fresh))
+    to.lend(ceilings.altered(crush, rng, mp, fresh, drive))
+    to.edit(good, rng.choice((0, 23 * len(fresh))))
+    to.edit(rng.choice(bad), 0)
+    # behind the places of the last group nothing is looked at and nothing altered
+    to.lend(fresh + [drive, 7, drive][:rng.randint(0, 3)])
+    for frame in good_frames(rng, mp, 5):
+        moves = len(crush.edit(to.map, to.table, frame, 23 * len(fresh), False).moves)
+        if moves:
+            to.edit(frame, 23 * moves - rng.choice((1, 1, 22, 23, 23 * moves)))
+        to.edit(frame, 23 * moves + rng.choice((0, 0, 1, 23, 40)))
+    to = Lent(ceilings.damaged(crush, rng, mp), fresh)
+    to.edit(good, 23 * len(fresh))
+
+
+def every_refusal(seeds, each):
+    """Of the maps of so many seeds that load refuses the shortest, so many by each number."""
+    by_number = {number: set() for number in (*range(1, 13), 21, 22, 23)}
+    for seed in range(seeds):
+        data = fill.split_input(gen.generate(seed, 'damaged', ARGS.level))[0]
+        number = crush.load(data, ARGS.level)
+        if isinstance(number, int):
+            by_number[number].add(data)
+    for found in by_number.values():
+        assert len(found) >= each
+        yield from sorted(found, key=lambda data: (len(data), data))[:each]
+
+
+def calls():
+    rng = random.Random(21)
+    good = [data for _, data, mp in maps(40, 900) if not isinstance(mp, int) and mp.G * mp.W <= 60]
+    nested = [weights.nested(gen, random.Random(f'calls:{depth}:{i}'), depth).bytes() for depth in range(1, 6) for i in range(4)]
+    for data in [b'', *every_refusal(1000, 4), *good, *sharing(12, 3), *nested]:
+        calls_of(rng, data)
+
+
 def accepting(rng, data, values):
     """The bytes of a map with one of the values for each drive's acceptance."""
     lines = data.decode().splitlines(keepends=True)
@@ -185,4 +349,4 @@ def hashes():
         hashes_of(rng, accepting(rng, data, (65536, 65536, 65536, 0, 1, 32768, 65535)))
 
 
-hashes() if ARGS.hashes else limits() if ARGS.ceilings else days() if ARGS.days else places()
+hashes() if ARGS.hashes else calls() if ARGS.calls else limits() if ARGS.ceilings else days() if ARGS.days else places()
