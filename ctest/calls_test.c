@@ -1,6 +1,6 @@
 /*
  * Calls crush_load, crush_fill, crush_edit, crush_write and crush_day_drives on the vectors of a file and compares each answer with every byte of the
- * memory lent, which is guarded; then the largest table, and what the header has beside calls.
+ * memory lent, which is guarded; then the largest table, maps of the most bytes, and what the header has beside calls.
  *
  * A line `map` or `table` of the file is what the calls behind it are lent, until the next such line or an edit that is made. In what is spelled as
  * text, digits stand for themselves, a comma for a newline and %xx for any other byte; a place has four digits; "-" is nothing.
@@ -267,6 +267,25 @@ static int largest_is_right(void) {
     return ok;
 }
 
+/* The first question is put to the length too: of the most bytes it is answered yes, and the second no, since one line is too long. */
+static int longest_is_right(void) {
+    static uint8_t text[4 * CRUSH_MAP_MOST];
+    const size_t lengths[] = {CRUSH_MAP_MOST - 1, CRUSH_MAP_MOST, CRUSH_MAP_MOST + 1, sizeof text};
+    int ok = 1;
+    for (size_t i = 0; i < sizeof lengths / sizeof lengths[0]; i++) {
+        size_t len = lengths[i];
+        uint32_t number = len <= CRUSH_MAP_MOST ? 2 : 1;
+        memset(text, '0', len - 1);
+        text[len - 1] = '\n';
+        const uint8_t *frames = lent(text, len);
+        ok = ok && crush_load(frames, len).number == number && crush_day_drives(frames, len, 0, 0, text, len).number == number;
+        ok = ok && crush_fill(frames, len, table, PLACES).number == 14 && crush_write(frames, len, text, len).number == 14;
+        give_back(frames, len);
+    }
+    printf("maps of the most bytes: %s\n", ok ? "right" : "wrong");
+    return ok;
+}
+
 /* Each number has a text of its own, and any other number one that is none of these. */
 static int meanings_are_right(void) {
     const uint32_t others[] = {NUMBERS, 255, UINT32_MAX};
@@ -295,6 +314,7 @@ int main(int argc, char **argv) {
     take_file(argv[1]);
     int ok = all_right();
     ok = largest_is_right() && ok;
+    ok = longest_is_right() && ok;
     ok = meanings_are_right() && ok;
     ok = version_is_right() && ok;
     return ok ? 0 : 1;

@@ -121,9 +121,13 @@ def days():
             print(data.hex() or '-', show, day, number, group)
 
 
+def places_of(table):
+    return ''.join(f'{place:04x}' for place in table) or '-'
+
+
 def ceiling(frames, table, drive):
     answer = ceilings.answer(crush, ARGS.level, frames, table, drive)
-    print(frames.hex() or '-', ''.join(f'{place:04x}' for place in table) or '-', drive, *answer)
+    print(frames.hex() or '-', places_of(table), drive, *answer)
 
 
 def limits():
@@ -147,10 +151,6 @@ def limits():
 def text_of(data):
     """Bytes as a word: digits stand for themselves, a comma for a newline and %xx for any other byte."""
     return ''.join(chr(byte) if byte in b'0123456789abcdef' else ',' if byte == 10 else f'%{byte:02x}' for byte in data) or '-'
-
-
-def places_of(table):
-    return ''.join(f'{place:04x}' for place in table) or '-'
 
 
 def altered_in(before, after, spell):
@@ -234,9 +234,10 @@ def bad_frames(rng, mp):
     drive = rng.choice(sorted(mp.devices))
     absent = rng.choice([number for number in range(1025) if number not in mp.devices])
     good = b'21%04x00000000' % drive
-    return [b'', b'21', good[:-1], good + b'0', good + b'\n', b'20' + good[2:], b'23' + good[2:], b'2' + good, good[:6] + b'0000000A', good[:6] + b'0000000 ',
-            b'21%04x%08x' % (drive, 65537), b'22%04x%08x' % (drive, 65536), b'22%04xffffffff' % drive, b'21%04x00000000' % absent, b'22%04x00000001' % absent,
-            b'21ffff00000000', b'\xb2\xb1' + good[2:]]
+    return [b'', b'21', good[:-1], good + b'0', good + b'\n', b'20' + good[2:], b'23' + good[2:], b'2' + good,
+            good[:6] + b'0000000A', good[:6] + b'0000000 ', b'\xb2\xb1' + good[2:],
+            b'21%04x%08x' % (drive, 65537), b'22%04x%08x' % (drive, 65536), b'22%04xffffffff' % drive,
+            b'21%04x00000000' % absent, b'22%04x00000001' % absent, b'21ffff00000000']
 
 
 def calls_of(rng, data):
