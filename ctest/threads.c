@@ -73,7 +73,8 @@ static void *run(void *unused) {
     return (void *)differ;
 }
 
-/* Whether the answers themselves say something: all calls are answered, the edits move places, and the last one undoes the first. */
+/* Whether the answers themselves say something: no call is refused, every edit moves places, and the last edit leaves the map and the table that the
+ * first was lent. */
 static int is_telling(const struct answers *a) {
     int ok = a->sizes.number == 0 && a->filled.number == 0 && a->written.bytes == len && memcmp(a->maps[0], map, len) == 0;
     for (size_t i = 0; i < LISTS; i++) {
