@@ -9,6 +9,7 @@ ghost use lib.ListN.{length};
 use frames::digits;
 use libc::STDOUT_FILENO;
 use limits::Limits;
+use report::asked::Program;
 use report::edits;
 use report::edits::Line;
 
@@ -220,11 +221,12 @@ fn take_byte(
 {
     let l = s.line;
     let before = limits::before_byte(map, table, l, b);
-    let turn = edits::on_byte(map, table, l, b, space);
-    let at = front_agrees(space, turn.printed, want, s.at);
+    let turn = edits::on_byte(Program::Fill, map, table, l, b, space);
+    let printed = turn.said.bytes;
+    let at = front_agrees(space, printed, want, s.at);
     let line = turn.line;
     let so_far = s.limits;
-    let limits = limits::after(map, table, before, turn.printed, case, so_far);
+    let limits = limits::after(map, table, before, printed, case, so_far);
     Step { line, at, limits }
 }
 
@@ -262,7 +264,8 @@ fn end_agrees(
 {
     let l = s.line;
     let before = limits::before_line(map, table, l);
-    let printed = edits::on_end(map, table, l, space);
+    let said = edits::on_end(Program::Fill, map, table, l, space);
+    let printed = said.bytes;
     let at = front_agrees(space, printed, want, s.at);
     let so_far = s.limits;
     let limits = limits::after(map, table, before, printed, case, so_far);
