@@ -15,7 +15,7 @@ use Rattle.definitions.specs.Rule.{widthOf, placedOf}
 use Rattle.definitions.specs.Table.{tableOf}
 use Rattle.definitions.specs.Writing.{dayGroup, twoBytes}
 use Rattle.definitions.specs.Load.{loadNumber}
-use Rattle.definitions.specs.Calls.{whole, groupBelow, roomForRow, roomForTable, roomForFrames, roomForBytes, sizesBy, sizesOf, placeNumber, placeBy, placeOf, afterLoad, daemonNumber, DaemonAnswer, daemonBy, daemonOf, FillAnswer, fillNumber, fillBy, fillOf, writeNumber, writeBy, writeOf, dayNumber, dayBy, dayOf, DrivesAnswer, drivesBy, drivesOf}
+use Rattle.definitions.specs.Calls.{whole, groupBelow, roomForRow, roomForTable, roomForFrames, roomForBytes, sizesBy, sizesOf, placeNumber, placeBy, placeOf, afterLoad, daemonNumber, DaemonAnswer, daemonBy, daemonOf, FillAnswer, fillNumber, fillBy, fillOf, writeNumber, writeBy, writeOf, dayNumber, dayBy, dayOf, drivesBy, drivesOf}
 use Rattle.laws.specs.Loadable.{ranged-is}
 use Rattle.text.specs.Loading.{loaded}
 use Rattle.text.specs.Agreement.{loaded-text}

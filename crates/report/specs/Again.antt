@@ -1,18 +1,18 @@
 -- "The map that `2c` prints is a map": from a map that loads, whatever lines came before, the map of the session loads, and a line `2c` prints it as it
 -- stands. Assumes nothing.
-use mathlib.Core.Path.{_≡_, refl, sym, ap, _∙_}
+use mathlib.Core.Path.{_≡_, refl, ap, _∙_}
 use mathlib.Core.Bool.{Bool, true, false, cond}
 use mathlib.Core.List.{List, [], _∷_, _++_}
 use Prim.Native.Nat.{ℕ, zero, suc, _≤_}
 use native.Mathlib.Omega.{arith}
 use lib.Dec.{eqb}
-use lib.ListN.{length, take, drop}
+use lib.ListN.{length, drop}
 use lib.Seq.{take-at}
 use Rattle.definitions.specs.Lists.{firstNo, same}
 use Rattle.definitions.specs.Map.{mapOf}
 use Rattle.definitions.specs.Load.{loadNumber}
 use Rattle.definitions.specs.Edit.{changeOf}
-use Rattle.definitions.specs.Calls.{fits, EditCase, caseOf, editNumber, editBy, editAnswer, editOf, WriteAnswer, writeOf}
+use Rattle.definitions.specs.Calls.{EditCase, caseOf, editNumber, editBy, editAnswer, editOf, WriteAnswer, writeOf}
 use Rattle.laws.specs.Loadable.{put-loadable}
 use Rattle.text.specs.Lines.{plain}
 use Rattle.text.specs.Loading.{loaded}

@@ -10,7 +10,6 @@ use lib.ListN.{length, getD, take, set, length-take, length-append, length-set}
 use lib.Seq.{take-all, take-append-le, take-suc-set, length-take-le}
 use lib.Dec.{eqb}
 use borrow.Author.Tests.{eq-eqb, ne-eqb, leb-true}
-use Rattle.definitions.specs.declared.Change.{Change}
 use Rattle.definitions.specs.declared.Change.the-variants.{Malformed}
 use Rattle.definitions.specs.Lists.{same, firstNo}
 use Rattle.definitions.specs.Edit.{changeOf}

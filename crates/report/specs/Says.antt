@@ -1,7 +1,6 @@
 -- What is printed for a line, and of the lines that are no edit that it is what they ask for. Assumes nothing.
 use mathlib.Core.Path.{_≡_, refl, sym, ap, _∙_}
-use mathlib.Core.Bool.{Bool, true, false}
-use mathlib.Core.List.{List, [], _∷_, _++_, append-nil}
+use mathlib.Core.List.{List, [], _++_, append-nil}
 use Prim.Native.Nat.{ℕ, zero, suc, _*_, _<_, _≤_}
 use native.Mathlib.Omega.{arith}
 use borrow.Author.Tests.{le-leb, lt-leb}
@@ -16,8 +15,7 @@ use Rattle.laws.specs.Loadable.{ranged-is, slim-is}
 use Rattle.text.specs.Loading.{loaded}
 use Rattle.engine.specs.Calls.{whole-no, whole-yes}
 use Rattle.report.specs.declared.edits.Said.{Said}
-use Rattle.report.specs.declared.asked.Asked.{Asked}
-use Rattle.report.specs.declared.asked.Asked.the-variants.{Frames, Rows, Nothing}
+use Rattle.report.specs.declared.asked.Asked.the-variants.{Frames, Rows}
 use Rattle.report.specs.Lines.{refusalLine, rowLines}
 use Rattle.report.specs.Edits.{framesBy, rowsBy, saysOf}
 

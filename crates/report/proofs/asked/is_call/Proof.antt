@@ -1,5 +1,5 @@
 -- `report::asked::is_call` meets its contract: two bytes, each the one asked for. Assumes nothing.
-use mathlib.Core.Path.{_≡_, refl, sym, _∙_}
+use mathlib.Core.Path.{sym}
 use borrow.Author.Tests.{eq-eqb, ne-eqb}
 use Rattle.report.specs.Kept.{other, call-two}
 use borrow.Author.Needs.{needs}

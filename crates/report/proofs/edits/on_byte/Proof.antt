@@ -1,5 +1,5 @@
 -- `report::edits::on_byte` meets its contract: the byte 10 ends the line, another is one more. Assumes nothing.
-use mathlib.Core.Path.{_≡_, refl}
+use mathlib.Core.Path.{refl}
 use native.Mathlib.Omega.{arith}
 use Rattle.report.specs.Says.{says-none}
 use Rattle.report.specs.Kept.{byte-other, byte-10, line-none}

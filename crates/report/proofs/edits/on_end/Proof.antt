@@ -1,6 +1,5 @@
 -- `report::edits::on_end` meets its contract: a line of no bytes is none. Assumes nothing.
-use mathlib.Core.Path.{_≡_, refl}
-use native.Mathlib.Omega.{arith}
+use mathlib.Core.Path.{refl}
 use Rattle.report.specs.Says.{says-none}
 use Rattle.report.specs.Kept.{keeps-none, keeps-empty, end-none, end-some}
 use borrow.Author.Needs.{needs}
