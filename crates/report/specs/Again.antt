@@ -8,7 +8,7 @@ use native.Mathlib.Omega.{arith}
 use lib.Dec.{eqb}
 use lib.ListN.{length, drop}
 use lib.Seq.{take-at}
-use Rattle.definitions.specs.Lists.{firstNo, same}
+use Rattle.definitions.specs.Lists.{same}
 use Rattle.definitions.specs.Map.{mapOf}
 use Rattle.definitions.specs.Load.{loadNumber}
 use Rattle.definitions.specs.Edit.{changeOf}
@@ -21,17 +21,9 @@ use Rattle.engine.specs.Calls.{write-0}
 use Rattle.report.specs.declared.asked.Program.{Program}
 use Rattle.report.specs.declared.asked.Program.the-variants.{Operate}
 use Rattle.report.specs.Edits.{Session, isEdit, edited, askedOf, framesBy, saysOf, lineOf, byteOf, behind, bytesOf, session}
-use Rattle.report.specs.Kept.{malformed, line-asked}
+use Rattle.report.specs.Kept.{all-yes, malformed, line-asked}
 
 -- ---- a line leaves a map that loads
-
-fits-yes : (a b c d e f : Bool) → firstNo ((14, a) ∷ (16, b) ∷ (17, c) ∷ (18, d) ∷ (19, e) ∷ (20, f) ∷ []) ≡ 0 → d ≡ true
-unfolding firstNo
-fits-yes false b c d e f z = absurd (omega arith)
-fits-yes true false c d e f z = absurd (omega arith)
-fits-yes true true false d e f z = absurd (omega arith)
-fits-yes true true true false e f z = absurd (omega arith)
-fits-yes true true true true e f z = refl
 
 edit-loads : (f t e s : List ℕ) → loadNumber f ≡ 0 → loadNumber (editOf f t e s .frames) ≡ 0
 unfolding editOf editAnswer editBy editNumber caseOf
@@ -41,7 +33,7 @@ edit-loads f t e s l = go (editNumber C) refl
     C = caseOf f t e s
 
     go : (n : ℕ) → editNumber C ≡ n → loadNumber (editBy C n .frames) ≡ 0
-    go zero p = written-loads (C .after) (put-loadable (mapOf f) (changeOf e) (loaded-map f l) (fits-yes _ _ _ _ _ _ p))
+    go zero p = written-loads (C .after) (put-loadable (mapOf f) (changeOf e) (loaded-map f l) (all-yes _ _ _ _ _ _ p .0))
     go (suc n) p = l
 
 pub line-loads : (p : Program) (f t e s : List ℕ) → loadNumber f ≡ 0 → loadNumber (lineOf p f t e s .frames) ≡ 0

@@ -40,17 +40,18 @@ pub record Stands (t : Turn) (frames table space : List ℕ) (s : Session) : Typ
   pub lent : Answers (t .said) frames table space s
   pub line : Keeps (t .line) (s .line)
 
--- ---- a good edit's moves have room
+-- ---- a good edit fits, and its moves have room
 
-last-yes : (a b c d e f : Bool) → firstNo ((14, a) ∷ (16, b) ∷ (17, c) ∷ (18, d) ∷ (19, e) ∷ (20, f) ∷ []) ≡ 0 → f ≡ true
+-- 18 and 20, where all are answered yes
+pub all-yes : (a b c d e f : Bool) → firstNo ((14, a) ∷ (16, b) ∷ (17, c) ∷ (18, d) ∷ (19, e) ∷ (20, f) ∷ []) ≡ 0 → (d ≡ true) × (f ≡ true)
 unfolding firstNo
-last-yes false b c d e f z = absurd (omega arith)
-last-yes true false c d e f z = absurd (omega arith)
-last-yes true true false d e f z = absurd (omega arith)
-last-yes true true true false e f z = absurd (omega arith)
-last-yes true true true true false f z = absurd (omega arith)
-last-yes true true true true true false z = absurd (omega arith)
-last-yes true true true true true true z = refl
+all-yes false b c d e f z = absurd (omega arith)
+all-yes true false c d e f z = absurd (omega arith)
+all-yes true true false d e f z = absurd (omega arith)
+all-yes true true true false e f z = absurd (omega arith)
+all-yes true true true true false f z = absurd (omega arith)
+all-yes true true true true true false z = absurd (omega arith)
+all-yes true true true true true true z = (refl, refl)
 
 edit-room : (f t e s : List ℕ) → editOf f t e s .number ≡ 0 → editOf f t e s .moves * 23 ≤ length s
 unfolding editOf editAnswer editBy editNumber caseOf roomForMoves
@@ -61,7 +62,7 @@ edit-room f t e s z = go (editNumber C) refl z
 
     go : (n : ℕ) → editNumber C ≡ n → editBy C n .number ≡ 0 → editBy C n .moves * 23 ≤ length s
     go zero p z =
-        let q = last-yes _ _ _ _ _ _ p in
+        let q = all-yes _ _ _ _ _ _ p .1 in
         let r = leb-true (23 * length (C .moves)) (length s) q in
         omega (arith, r)
     go (suc n) p z = absurd (omega arith)
