@@ -15,11 +15,11 @@ them, in a scratch repository outside this one.  Prints how many held.
 
   --leaves   hashes of two, three and four, logarithms and keys, of random
              numbers
-  --maps     valid maps: load, write, day, placing of every group (places and
-             tries), the daemon's bytes
+  --maps     valid maps: load, sizes, write, day, placing of every group (places
+             and tries), the daemon's bytes, a day's drives
   --edits    maps with a list of edits: number, count of moves, map, table and
              moves after each edit
-  --damaged  damaged maps, and maps at a limit: load's number
+  --damaged  damaged maps, and maps at a limit: load's number, the sizes
   --ties     maps made for equal keys, and for keys one step apart: one group
   --walks    maps of which each place's whole walk (draws and tests) is compared
   --through  maps with a step 5, every other of them with an inner walk that
@@ -120,7 +120,7 @@ use %(of)sSelect.{Place}
 use %(of)sRule.{placedOf}
 use %(of)sEdit.{put}
 use %(of)sWriting.{mapText}
-use %(of)sCalls.{loadOf, placeOf, daemonOf, fillOf, editOf, ceilingOf, writeOf, dayOf}
+use %(of)sCalls.{loadOf, sizesOf, placeOf, daemonOf, fillOf, editOf, ceilingOf, writeOf, dayOf, drivesOf}
 use %(of)sOpen.{computing}
 %(more)s
 -- the k bytes that a number spells, highest first
@@ -324,6 +324,8 @@ def valid_maps(ths, count):
         w = mp.W
         b = text(data)
         ths.add('load', 'seed %d' % seed, 'loadOf %s' % b, '0', 0, mp)
+        ths.add('sizes', 'seed %d' % seed, 'sizesOf %s' % b,
+                'record { number = 0; groups = %d; places = %d }' % (mp.G, w))
         ths.add('write', 'seed %d' % seed,
                 'writeOf %s (replicate %d 7)' % (b, len(data) + 1),
                 'record { number = 0; bytes = %d; space = %s }'
@@ -346,6 +348,20 @@ def valid_maps(ths, count):
                 'daemonOf %s %d (replicate %d 7)' % (b, g, 2 * w + extra),
                 'record { number = %d; places = %d; tries = %d; out = %s }'
                 % (number, n, tr, text(space)), runs[g][1], mp, runs[g][2])
+        g = crush.day_group(mp, show, day)
+        space = bytearray(b'\7' * (2 * w + extra))
+        number, n, tr = crush.place(data, g, space, ARGS.level)
+        ths.add('drives', 'seed %d group %d' % (seed, g),
+                'drivesOf %s %d %d (replicate %d 7)'
+                % (b, show, day, 2 * w + extra),
+                'record { number = %d; group = %d; places = %d; tries = %d; '
+                'out = %s }' % (number, g, n, tr, text(space)),
+                runs[g][1], mp, runs[g][2])
+        ths.add('refusal', 'seed %d list too long' % seed,
+                'drivesOf %s %d %d (replicate %d 7)'
+                % (b, show, day, 2 * w - 1),
+                'record { number = 16; group = 0; places = 0; tries = 0; '
+                'out = %s }' % numbers([7] * (2 * w - 1)))
         ths.add('refusal', 'seed %d no such group' % seed,
                 'placeOf %s %d (replicate %d 7)' % (b, mp.G, w),
                 'record { number = 15; places = 0; tries = 0; row = %s }'
@@ -498,7 +514,14 @@ def damaged_maps(ths, count):
         numbers_seen[number] = numbers_seen.get(number, 0) + 1
         ths.add('load', '%s %d' % (kind, seed), 'loadOf %s' % text(data),
                 str(number), 0, None if number else res)
+        ths.add('sizes', '%s %d' % (kind, seed), 'sizesOf %s' % text(data),
+                'record { number = %d; groups = %d; places = %d }'
+                % (number, 0 if number else res.G, 0 if number else res.W))
         if number:
+            ths.add('refusal', '%s %d' % (kind, seed),
+                    'drivesOf %s 1 2 (3 ∷ [])' % text(data),
+                    'record { number = %d; group = 0; places = 0; tries = 0; '
+                    'out = 3 ∷ [] }' % number)
             ths.add('refusal', '%s %d' % (kind, seed),
                     'editOf %s (1 ∷ []) (2 ∷ []) (3 ∷ [])' % text(data),
                     'record { number = 14; moves = 0; frames = %s; '
