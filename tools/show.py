@@ -61,7 +61,7 @@ REFUSALS = {
     13: ("the drives weigh more than 67,107,840 in all", "no map comes so far: report it"),
     14: ("the map is not as load or edit left it", "load the map again"),
     15: ("the map has no such group", "ask for a group below its number"),
-    16: ("the space lent is too small; of the program: groups x W is above 32,768", "fewer groups or copies"),
+    16: ("the space lent is too small; of program fill: groups x W is above 32,768", "take program operate, or fewer groups or copies"),
     17: ("the rule has a first-n select, and such a map takes no edit", "change the map's file, and compare the tables"),
     18: ("the line is no edit, the drive is not in the map, or the value is out of range", "mend the line"),
     19: ("the table is not what fill gives", "fill it again"),

@@ -2,6 +2,7 @@
 use mathlib.Core.Path.{_≡_, refl, sym, ap, _∙_}
 use mathlib.Core.List.{List, [], _++_, append-nil}
 use Prim.Native.Nat.{ℕ, zero, suc, _*_, _<_, _≤_}
+use native.Mathlib.Decide.{ℕ-discrete}
 use native.Mathlib.Omega.{arith}
 use borrow.Author.Tests.{le-leb, lt-leb}
 use lib.ListN.{length, take, length-append}
@@ -10,10 +11,10 @@ use Rattle.definitions.specs.Map.{mapOf}
 use Rattle.definitions.specs.Rule.{widthOf}
 use Rattle.definitions.specs.Load.{loadNumber}
 use Rattle.definitions.specs.Writing.{mapText}
-use Rattle.definitions.specs.Calls.{roomForTable, SizesAnswer, sizesBy, sizesOf, fillNumber, WriteAnswer, writeOf, writeBy, writeNumber}
+use Rattle.definitions.specs.Calls.{roomForTable, SizesAnswer, sizesOf, fillNumber, WriteAnswer, writeOf, writeBy, writeNumber}
 use Rattle.laws.specs.Loadable.{ranged-is, slim-is}
 use Rattle.text.specs.Loading.{loaded}
-use Rattle.engine.specs.Calls.{whole-no, whole-yes}
+use Rattle.engine.specs.Calls.{whole-no, whole-yes, sizes-load, sizes-0}
 use Rattle.report.specs.declared.edits.Said.{Said}
 use Rattle.report.specs.declared.asked.Asked.the-variants.{Frames, Rows}
 use Rattle.report.specs.Lines.{refusalLine, rowLines}
@@ -88,14 +89,13 @@ pub record Sized (f : List ℕ) (a : SizesAnswer) : Type 0 where
   pub slim : a .places ≤ 32
 
 pub sized : (f : List ℕ) (a : SizesAnswer) → a ≡ sizesOf f → a .number ≡ 0 → Sized f a
-unfolding sizesOf sizesBy
-sized f a i z = go (loadNumber f) refl (ap (λ (x : SizesAnswer). x .number) (sym i) ∙ z) i
+sized f a i z = go (ℕ-discrete (loadNumber f) 0)
   where
-    go : (k : ℕ) → loadNumber f ≡ k → sizesBy (mapOf f) k .number ≡ 0 → a ≡ sizesBy (mapOf f) k → Sized f a
-    go zero e n j =
+    go : Dec (loadNumber f ≡ 0) → Sized f a
+    go (yes e) =
         let l = loaded f e in
-        let g = ap (λ (x : SizesAnswer). x .groups) j in
-        let w = ap (λ (x : SizesAnswer). x .places) j in
+        let g = ap (λ (x : SizesAnswer). x .groups) (i ∙ sizes-0 f e) in
+        let w = ap (λ (x : SizesAnswer). x .places) (i ∙ sizes-0 f e) in
         record {
           loads = e;
           groups-are = g;
@@ -103,15 +103,14 @@ sized f a i z = go (loadNumber f) refl (ap (λ (x : SizesAnswer). x .number) (sy
           few = omega (arith, g, ranged-is (mapOf f) (l .ranged) .most);
           slim = omega (arith, w, slim-is (mapOf f) (l .slim) .width);
         }
-    go (suc k) e n j = absurd (omega (arith, n))
+    go (no h) = absurd (h (sym (ap (λ (x : SizesAnswer). x .number) (i ∙ sizes-load f h)) ∙ z))
 
 -- where the rows of the definition have room, those that are printed have
 pub rows-room : (f : List ℕ) (a : SizesAnswer) → Sized f a → (w : ℕ) → w ≡ a .places → (n : ℕ) → mapOf f .groups * widthOf (mapOf f) ≤ n → a .groups * w ≤ n
 rows-room f a z w q n l = rw (q, z .groups-are, z .width-is) l
 
 pub refused : (f : List ℕ) (a : SizesAnswer) → a ≡ sizesOf f → (a .number ≡ 0 → ⊥) → loadNumber f ≡ 0 → ⊥
-unfolding sizesOf sizesBy
-refused f a i z e = z (ap (λ (x : SizesAnswer). x .number) i ∙ rw e refl)
+refused f a i z e = z (ap (λ (x : SizesAnswer). x .number) (i ∙ sizes-0 f e))
 
 pub rows-14 : (f t s : List ℕ) → (loadNumber f ≡ 0 → ⊥) → saysOf Rows f t s ≡ refusalLine 14
 unfolding saysOf fillNumber firstNo rowsBy

@@ -1,8 +1,8 @@
 // What a line behind the map asks for beside an edit. Program `fill` knows edits alone; program `operate`, an operator's day, also writes the map
 // and tells the table.
 ghost use mathlib.Core.Path.{_≡_};
-ghost use Rattle.definitions.specs.Lists.{same};
 ghost use mathlib.Core.List.{[], _∷_};
+ghost use Rattle.definitions.specs.Lists.{same};
 ghost use Rattle.report.specs.Edits.{askedOf};
 
 pub enum Program {

@@ -180,7 +180,7 @@ fn answer(p: Program, map: &mut [u8], table: &mut [u16], line: &[u8], space: &mu
     say(asked::asked_of(p, line), map, table, space)
 }
 
-// A line has ended: its edit is made.
+// A line has ended, and is answered by what was kept of it.
 fn on_line(p: Program, map: &mut [u8], table: &mut [u16], l: Line, space: &mut [u8]) -> Said
     requires { ⌜ (5 ≤ length (now space)) × (l .count ≤ 15) ⌝ }
     ensures { λ r. ⌜ Within r (now (table .exit)) (now (space .exit)) × ((xs : List ℕ) → Keeps l xs → Answers r (now (map .exit)) (now (table .exit)) (now (space .exit))
@@ -235,7 +235,7 @@ fn add(l: Line, read: &[u8]) -> Added
     Added { line, used: i }
 }
 
-// The bytes read, up to the first line that ends: what it prints is in the space, which the next line needs.
+// The bytes read, up to the first line that ends: what it prints is in the space or in the table, which the next line needs.
 pub fn on_bytes(
     p: Program,
     map: &mut [u8],

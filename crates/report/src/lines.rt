@@ -1,4 +1,4 @@
-// The lines that program `fill` prints, each written over the whole of a space of its length.
+// The lines that programs `fill` and `operate` print, each written over the whole of a space of its length.
 ghost use mathlib.Core.Path.{_≡_};
 ghost use mathlib.Core.List.{map};
 ghost use Prim.Native.Nat.{_+_, _*_, _≤_};
