@@ -4,8 +4,8 @@
  *
  * From the root of the repository:
  *
- *     rt staticlib engine
- *     gcc -O2 -Wall -Wextra -std=c11 -Iinclude -o target/ceiling examples/ceiling.c target/staticlib/libengine.a
+ *     rt staticlib crush_place
+ *     gcc -O2 -Wall -Wextra -std=c11 -Iinclude -o target/ceiling examples/ceiling.c target/staticlib/libcrush_place.a
  *     target/ceiling examples/archive.map 0020
  *
  * DRIVE is four hexadecimal digits, as in the map. The exit status is 0; or 1 for a refusal, whose number and meaning go to standard error; or 2

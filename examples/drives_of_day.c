@@ -3,8 +3,8 @@
  *
  * From the root of the repository:
  *
- *     rt staticlib engine
- *     gcc -O2 -Wall -Wextra -std=c11 -Iinclude -o target/drives_of_day examples/drives_of_day.c target/staticlib/libengine.a
+ *     rt staticlib crush_place
+ *     gcc -O2 -Wall -Wextra -std=c11 -Iinclude -o target/drives_of_day examples/drives_of_day.c target/staticlib/libcrush_place.a
  *     target/drives_of_day examples/archive.map 816 20261115
  *
  * SHOW and DAY are decimal. The exit status is 0; or 1 for a refusal, whose number and meaning go to standard error; or 2 where the arguments or

@@ -3,8 +3,8 @@
  *
  * From the root of the repository:
  *
- *     rt staticlib engine
- *     gcc -O2 -Wall -Wextra -std=c11 -Iinclude -o target/edit_map examples/edit_map.c target/staticlib/libengine.a
+ *     rt staticlib crush_place
+ *     gcc -O2 -Wall -Wextra -std=c11 -Iinclude -o target/edit_map examples/edit_map.c target/staticlib/libcrush_place.a
  *     cp examples/archive.map target/edited.map
  *     target/edit_map target/edited.map 21002000000000
  *

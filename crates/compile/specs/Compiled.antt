@@ -25,9 +25,9 @@ use Rattle.laws.specs.Forest.{kidsOf, kids-bucket, forest, weight-bucket, weigh
 use Rattle.text.specs.Records.{noBucket}
 use Rattle.hierarchy.specs.Sums.{weightsBy}
 use Rattle.hierarchy.specs.Arrays.{firstsIn, countsIn, typesIn, kindsIn, kindIn, seedIn, firstIn, countIn, childrenIn, partAt, partOf, childIn, typeIn, acceptancesIn, viewIn, Sound}
-use Rattle.compile.specs.Tables.{Tabled}
+use Rattle.hierarchy.specs.Tables.{Tabled}
 use Rattle.compile.specs.Links.{Arranged}
-use Rattle.compile.specs.Weights.{itemIn}
+use Rattle.weights.specs.Weights.{itemIn}
 use Rattle.compile.specs.Trees.{wordsBy, words-again, partIn, Parts}
 use Rattle.compile.specs.Weighing.{child-of, bucketWeight, item-is}
 

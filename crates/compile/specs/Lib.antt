@@ -1,8 +1,6 @@
 -- What the arrays hold, and that they are the map's.
-pub mod Tables
 pub mod Reading
 pub mod Links
-pub mod Weights
 pub mod Weighing
 pub mod Trees
 pub mod Compiled

@@ -18,7 +18,7 @@ use Rattle.laws.specs.Lists.{both, every-at, linked-head, linked-tail, linked-r
 use Rattle.laws.specs.Loadable.{Loadable, ranged-is, rising-is, link-ranged, ChildRanged, bounds}
 use Rattle.text.specs.Records.{noLink}
 use Rattle.hierarchy.specs.Arrays.{partAt, ItemRange}
-use Rattle.compile.specs.Tables.{Tabled, stored, getD-set, blank}
+use Rattle.hierarchy.specs.Tables.{Tabled, stored, getD-set, blank}
 
 -- ---- where a bucket's links stand
 

@@ -27,8 +27,8 @@ use Rattle.laws.specs.Fuel.{is-bucket}
 use Rattle.laws.specs.Forest.{weight-device, weight-bucket, sinks}
 use Rattle.laws.specs.Found.{device-number, present-device, drawn-present}
 use Rattle.hierarchy.specs.Arrays.{livesIn, viewIn, givenUp, Flagged}
-use Rattle.compile.specs.Tables.{Tabled}
-use Rattle.compile.specs.Weights.{livePart}
+use Rattle.hierarchy.specs.Tables.{Tabled}
+use Rattle.weights.specs.Weights.{livePart}
 use Rattle.compile.specs.Weighing.{bucketWeight}
 use Rattle.compile.specs.Compiled.{Planned, Weighs, put-planned}
 use Rattle.compile.specs.Dead.{walk-dead}

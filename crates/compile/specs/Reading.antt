@@ -26,7 +26,7 @@ use Rattle.text.specs.Shape.{shapeOf}
 use Rattle.text.specs.RoundTrip.{Framed}
 use Rattle.text.specs.Records.{noDevice, noBucket, noStep, shape-devices}
 use Rattle.text.specs.Loading.{loaded}
-use Rattle.compile.specs.Tables.{Tabled, From, from-none, from-more, from-all}
+use Rattle.hierarchy.specs.Tables.{Tabled, From, from-none, from-more, from-all}
 
 -- t is a text with its counts of frames, and m a map that load takes: that of the text, or that after an edit
 pub record Readable (t : List ℕ) (s : Shape) (m : Map) : Type 0 where

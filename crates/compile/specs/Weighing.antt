@@ -17,9 +17,9 @@ use Rattle.definitions.specs.Load.{linkRanged}
 use Rattle.laws.specs.Members.{mem-every, map-ext}
 use Rattle.laws.specs.Loadable.{Loadable, ranged-is, link-ranged, ChildRanged}
 use Rattle.laws.specs.Forest.{forest, kidsOf, type-bucket, kids-bucket, kid-link, weight-device, weight-bucket, weight-most}
-use Rattle.compile.specs.Tables.{Tabled, getD-set, blank}
+use Rattle.hierarchy.specs.Tables.{Tabled, getD-set, blank}
 use Rattle.compile.specs.Links.{Arranged}
-use Rattle.compile.specs.Weights.{itemIn, Arrays, arrays, Within, loadIn, weighedAt, roundTo, upTo, Fitting, greatest, at-most, item-bucket, item-device}
+use Rattle.weights.specs.Weights.{itemIn, Arrays, arrays, Within, loadIn, weighedAt, roundTo, upTo, Fitting, greatest, at-most, item-bucket, item-device}
 
 -- ---- a child
 

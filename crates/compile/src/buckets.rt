@@ -1,7 +1,7 @@
 // The types and the kinds of the buckets, by bucket number.
 ghost use Rattle.definitions.specs.Map.{mapOf};
 ghost use Rattle.definitions.specs.View.{bucketType, kindNumber};
-ghost use Rattle.compile.specs.Tables.{Tabled};
+ghost use Rattle.hierarchy.specs.Tables.{Tabled};
 ghost use Rattle.compile.specs.Reading.{Readable};
 use frames::records;
 use text::Shape;

@@ -7,7 +7,7 @@ ghost use Rattle.definitions.specs.View.{acceptanceOf, deviceWeight};
 ghost use Rattle.definitions.specs.Edit.{put};
 ghost use Rattle.text.specs.RoundTrip.{Framed};
 ghost use Rattle.text.specs.Records.{noDevice};
-ghost use Rattle.compile.specs.Tables.{Tabled};
+ghost use Rattle.hierarchy.specs.Tables.{Tabled};
 ghost use Rattle.compile.specs.Reading.{Readable};
 use definitions::Change;
 use definitions::Device;

@@ -11,7 +11,7 @@ ghost use Rattle.definitions.specs.Edit.{put};
 ghost use Rattle.laws.specs.Loadable.{Loadable};
 ghost use Rattle.text.specs.Shape.{shapeOf};
 ghost use Rattle.hierarchy.specs.Arrays.{firstsIn, countsIn, partAt, viewIn, livesIn, Sound, Flagged, actionsIn};
-ghost use Rattle.compile.specs.Tables.{Tabled};
+ghost use Rattle.hierarchy.specs.Tables.{Tabled};
 ghost use Rattle.compile.specs.Reading.{Readable};
 ghost use Rattle.compile.specs.Weighing.{bucketWeight};
 ghost use Rattle.compile.specs.Compiled.{Planned, Weighs};
@@ -28,7 +28,6 @@ mod join;
 mod links;
 pub mod steps;
 mod trees;
-mod weights;
 
 // The weights of the buckets, by number, of whichever map this is the plan and `own` the weights of the devices.
 pub fn bucket_weights<'a>(plan: &'a Plan, own: &'a [u32; 1024]) -> [u32; 256]

@@ -6,9 +6,9 @@ use Prim.Native.Nat.{ℕ, _+_, _≤_}
 use native.Mathlib.Omega.{arith}
 use lib.ListN.{length, take, drop}
 use lib.Seq.{length-take-le, take-add}
-use Rattle.report.specs.declared.input.Spot.{Spot}
-use Rattle.report.specs.declared.input.Spot.the-variants.{Start}
-use Rattle.report.specs.Input.{mapFrom, mapLength, spotAfter, mapBytes, map-from-start, spot-cut, map-cut, map-within}
+use Rattle.protocol.specs.declared.input.Spot.{Spot}
+use Rattle.protocol.specs.declared.input.Spot.the-variants.{Start}
+use Rattle.protocol.specs.Input.{mapFrom, mapLength, spotAfter, mapBytes, map-from-start, spot-cut, map-cut, map-within}
 use Rattle.console.specs.declared.Gathered.{Gathered}
 
 -- of the bytes read, which stand at the front of the space, those of the map are counted, and where it stands is known

@@ -1,6 +1,6 @@
 // What programs `fill` and `operate` do with the bytes of standard input: reads a map and then lines; prints the row of each group, then what each
-// line leads to, as soon as the bytes that ask for it are there. It only moves bytes: what they mean and what is printed is decided in `engine` and
-// `report`. At the first read or write that fails it stops.
+// line leads to, as soon as the bytes that ask for it are there. It only moves bytes: what they mean and what is printed is decided in `engine`,
+// `protocol` and `report`. At the first read or write that fails it stops.
 mod system;
 
 ghost use mathlib.Core.Path.{_≡_};
@@ -13,12 +13,12 @@ ghost use Rattle.report.specs.Kept.{Keeps};
 ghost use Rattle.report.specs.Reads.{Led, Ended};
 ghost use Rattle.report.specs.Says.{Within};
 ghost use Rattle.console.specs.Gathering.{Gathers};
-use report::asked::Program;
+use protocol::asked::Program;
+use protocol::input;
+use protocol::input::Spot;
 use report::edits;
 use report::edits::Line;
 use report::edits::Said;
-use report::input;
-use report::input::Spot;
 use system::Got;
 
 // What was read for the map: where the map stands, how many of the bytes are its own, how many were read; whether to read on, and whether a
@@ -45,7 +45,7 @@ fn wide(x: u32) -> usize
 
 fn print_refusal(p: Program, number: u32) {
     let mut line = [0u8; 5];
-    report::lines::refusal_line(number, &mut line);
+    protocol::printed::refusal_line(number, &mut line);
     system::print(p, &line);
 }
 
@@ -53,7 +53,7 @@ fn print_refusal(p: Program, number: u32) {
 fn print_row(p: Program, group: u32, row: &[u16], line: &mut [u8]) -> bool
     requires { ⌜ (length (now line) ≡ 11 + 4 * length (now row)) × (length (now row) ≤ 32) ⌝ }
 {
-    report::lines::row_line(group, row, line);
+    protocol::printed::row_line(group, row, line);
     system::print(p, line)
 }
 

@@ -8,7 +8,7 @@ use libc::EINTR;
 use libc::STDERR_FILENO;
 use libc::STDIN_FILENO;
 use libc::STDOUT_FILENO;
-use report::asked::Program;
+use protocol::asked::Program;
 
 // How many bytes a read brought, none at the end of the input, and whether it failed.
 pub struct Got {

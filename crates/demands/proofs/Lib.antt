@@ -3,9 +3,3 @@ pub mod RoundTrip
 pub mod Demand3
 pub mod Ceiling
 pub mod Instance
-pub mod Sample
-pub mod ThreeCauses
-pub mod Through
-pub mod Trees
-pub mod Blocks
-pub mod Reached

@@ -2,7 +2,7 @@
 -- write.
 use mathlib.Core.List.{List}
 use Prim.Native.Nat.{ℕ}
-use Rattle.definitions.specs.Calls.{SizesAnswer, PlaceAnswer, DaemonAnswer, FillAnswer, EditAnswer, CeilingAnswer, WriteAnswer, DayAnswer, DrivesAnswer}
+use Rattle.definitions.specs.Calls.{SizesAnswer, PlaceAnswer, FillAnswer, EditAnswer, CeilingAnswer, WriteAnswer, DayAnswer}
 use Rattle.engine.specs.declared.load.Sizes.{Sizes}
 use Rattle.engine.specs.declared.place.Placing.{Placing}
 use Rattle.engine.specs.declared.fill.Filled.{Filled}
@@ -10,7 +10,6 @@ use Rattle.engine.specs.declared.edit.Edited.{Edited}
 use Rattle.engine.specs.declared.limit.Limit.{Limit}
 use Rattle.engine.specs.declared.write.Written.{Written}
 use Rattle.engine.specs.declared.day.Day.{Day}
-use Rattle.engine.specs.declared.daemon.Drives.{Drives}
 
 abbrev pub sizesAnswer : Sizes → SizesAnswer
 sizesAnswer r = record { number = r .number; groups = r .groups; places = r .places }
@@ -27,14 +26,8 @@ placeAnswer r row = record { number = r .number; places = r .places; tries = r .
 abbrev pub fillAnswer : Filled → List ℕ → FillAnswer
 fillAnswer r table = record { number = r .number; places = r .places; table = table }
 
-abbrev pub daemonAnswer : Placing → List ℕ → DaemonAnswer
-daemonAnswer r out = record { number = r .number; places = r .places; tries = r .tries; out = out }
-
 abbrev pub editAnswer : Edited → List ℕ → List ℕ → List ℕ → EditAnswer
 editAnswer r frames table space = record { number = r .number; moves = r .moves; frames = frames; table = table; space = space }
 
 abbrev pub ceilingAnswer : Limit → CeilingAnswer
 ceilingAnswer r = record { number = r .number; groups = r .groups; moves = r .moves }
-
-abbrev pub drivesAnswer : Drives → List ℕ → DrivesAnswer
-drivesAnswer r out = record { number = r .number; group = r .group; places = r .places; tries = r .tries; out = out }

@@ -1,9 +1,8 @@
 -- What each call answers, question by question: laws of the definitions in `Calls`, for the proofs of the engine. Assumes nothing.
-use mathlib.Core.Path.{_≡_, refl, sym, ap, _∙_}
+use mathlib.Core.Path.{_≡_, refl, ap, _∙_}
 use mathlib.Core.Bool.{Bool, true, false}
-use mathlib.Core.List.{List, [], _∷_}
+use mathlib.Core.List.{List}
 use Prim.Native.Nat.{ℕ, zero, suc, _*_, _<_, _≤_}
-use native.Mathlib.Nat.{mod-lt}
 use native.Mathlib.Omega.{arith}
 use lib.Dec.{leb}
 use lib.ListN.{length}
@@ -13,11 +12,9 @@ use Rattle.definitions.specs.Map.{mapOf}
 use Rattle.definitions.specs.Select.{entriesOf}
 use Rattle.definitions.specs.Rule.{widthOf, placedOf}
 use Rattle.definitions.specs.Table.{tableOf}
-use Rattle.definitions.specs.Writing.{dayGroup, twoBytes}
+use Rattle.definitions.specs.Writing.{dayGroup}
 use Rattle.definitions.specs.Load.{loadNumber}
-use Rattle.definitions.specs.Calls.{whole, groupBelow, roomForRow, roomForTable, roomForFrames, roomForBytes, sizesBy, sizesOf, placeNumber, placeBy, placeOf, afterLoad, daemonNumber, DaemonAnswer, daemonBy, daemonOf, FillAnswer, fillNumber, fillBy, fillOf, writeNumber, writeBy, writeOf, dayNumber, dayBy, dayOf, drivesBy, drivesOf}
-use Rattle.laws.specs.Loadable.{ranged-is}
-use Rattle.text.specs.Loading.{loaded}
+use Rattle.definitions.specs.Calls.{whole, groupBelow, roomForRow, roomForTable, roomForFrames, sizesBy, sizesOf, placeNumber, placeBy, placeOf, FillAnswer, fillNumber, fillBy, fillOf, writeNumber, writeBy, writeOf, dayNumber, dayBy, dayOf}
 use Rattle.text.specs.Agreement.{loaded-text}
 
 -- question 14
@@ -87,83 +84,6 @@ module _ (f : List ℕ) (g : ℕ) (row : List ℕ) (e : loadNumber f ≡ 0) wher
       → placeOf f g row ≡ record { number = 0; places = widthOf (mapOf f); tries = placedOf (mapOf f) g .tries; row = over (entriesOf (placedOf (mapOf f) g .places)) row }
   unfolding placeOf placeNumber firstNo placeBy groupBelow roomForRow
   place-0 h l = simp (whole-yes f e, lt-ltb g (mapOf f .groups) h, le-leb (widthOf (mapOf f)) (length row) l)
-
--- ---- the daemon's call
-
-pub daemon-load : (f : List ℕ) (g : ℕ) (out : List ℕ) → (loadNumber f ≡ 0 → ⊥) → daemonOf f g out ≡ record { number = loadNumber f; places = 0; tries = 0; out = out }
-unfolding daemonOf daemonNumber afterLoad daemonBy
-daemon-load f g out h = go (loadNumber f) h
-  where
-    go : (n : ℕ) → (n ≡ 0 → ⊥)
-        → daemonBy (widthOf (mapOf f)) (placedOf (mapOf f) g) out (afterLoad n (firstNo ((15, groupBelow (mapOf f) g) ∷ (16, roomForBytes (mapOf f) out) ∷ [])))
-        ≡ record { number = n; places = 0; tries = 0; out = out }
-    go zero k = absurd (k refl)
-    go (suc n) k = refl
-
-module _ (f : List ℕ) (g : ℕ) (out : List ℕ) (e : loadNumber f ≡ 0) where
-  pub daemon-15 : mapOf f .groups ≤ g → daemonOf f g out ≡ record { number = 15; places = 0; tries = 0; out = out }
-  unfolding daemonOf daemonNumber afterLoad daemonBy firstNo groupBelow
-  daemon-15 h = simp (e, le-ltb g (mapOf f .groups) h)
-
-  pub daemon-16 : g < mapOf f .groups → length out < 2 * widthOf (mapOf f) → daemonOf f g out ≡ record { number = 16; places = 0; tries = 0; out = out }
-  unfolding daemonOf daemonNumber afterLoad daemonBy firstNo groupBelow roomForBytes
-  daemon-16 h l = simp (e, lt-ltb g (mapOf f .groups) h, lt-leb (2 * widthOf (mapOf f)) (length out) l)
-
-  pub daemon-0 : g < mapOf f .groups → 2 * widthOf (mapOf f) ≤ length out
-      → daemonOf f g out ≡ record { number = 0; places = widthOf (mapOf f); tries = placedOf (mapOf f) g .tries; out = over (twoBytes (entriesOf (placedOf (mapOf f) g .places))) out }
-  unfolding daemonOf daemonNumber afterLoad daemonBy firstNo groupBelow roomForBytes
-  daemon-0 h l = simp (e, lt-ltb g (mapOf f .groups) h, le-leb (2 * widthOf (mapOf f)) (length out) l)
-
--- ---- the drives of a day
-
--- a refused placing refuses them
-pub drives-refused : (f : List ℕ) (show day : ℕ) (out : List ℕ) (a : DaemonAnswer) → a ≡ daemonOf f (dayGroup (mapOf f) show day) out → (a .number ≡ 0 → ⊥)
-    → drivesOf f show day out ≡ record { number = a .number; group = 0; places = 0; tries = 0; out = a .out }
-unfolding drivesOf drivesBy daemonOf daemonBy
-drives-refused f show day out a e h = go (daemonNumber f g out) e
-  where
-    g : ℕ
-    g = dayGroup (mapOf f) show day
-
-    d : ℕ → DaemonAnswer
-    d n = daemonBy (widthOf (mapOf f)) (placedOf (mapOf f) g) out n
-
-    go : (n : ℕ) → a ≡ d n → drivesBy g (d n) out (d n .number) ≡ record { number = a .number; group = 0; places = 0; tries = 0; out = a .out }
-    go zero p = absurd (h (ap (λ (x : DaemonAnswer). x .number) p))
-    go (suc n) p = ap (λ (x : DaemonAnswer). record { number = x .number; group = 0; places = 0; tries = 0; out = x .out }) (sym p)
-
--- and so does load
-pub drives-load : (f : List ℕ) (show day : ℕ) (out : List ℕ) (n : ℕ) → n ≡ loadNumber f → (n ≡ 0 → ⊥)
-    → drivesOf f show day out ≡ record { number = n; group = 0; places = 0; tries = 0; out = out }
-drives-load f show day out n p h =
-    drives-refused f show day out (record { number = n; places = 0; tries = 0; out = out }) (rw p (sym (daemon-load f _ out (λ e. h (p ∙ e))))) h
-
-pub drives-0 : (f : List ℕ) (show day : ℕ) (out : List ℕ) (a : DaemonAnswer) → a ≡ daemonOf f (dayGroup (mapOf f) show day) out → a .number ≡ 0
-    → drivesOf f show day out ≡ record { number = 0; group = dayGroup (mapOf f) show day; places = a .places; tries = a .tries; out = a .out }
-unfolding drivesOf drivesBy
-drives-0 f show day out a e z =
-    ap (λ (x : DaemonAnswer). drivesBy (dayGroup (mapOf f) show day) x out (x .number)) (sym e) ∙ ap (drivesBy (dayGroup (mapOf f) show day) a out) z
-
--- the group of a day is one of the map's
-pub day-below : (f : List ℕ) (show day : ℕ) → loadNumber f ≡ 0 → dayGroup (mapOf f) show day < mapOf f .groups
-unfolding dayGroup
-day-below f show day e = mod-lt _ (ranged-is _ (loaded f e .ranged) .least)
-
--- so of a map that loads 16 alone can be answered no
-pub drives-number : (f : List ℕ) (show day : ℕ) (out : List ℕ) → loadNumber f ≡ 0 → drivesOf f show day out .number ≡ firstNo ((16, roomForBytes (mapOf f) out) ∷ [])
-unfolding drivesOf drivesBy daemonOf daemonBy daemonNumber afterLoad firstNo groupBelow
-drives-number f show day out e =
-    number (daemonNumber f g out) ∙ simp (e, lt-ltb g (mapOf f .groups) (day-below f show day e))
-  where
-    g : ℕ
-    g = dayGroup (mapOf f) show day
-
-    d : ℕ → DaemonAnswer
-    d n = daemonBy (widthOf (mapOf f)) (placedOf (mapOf f) g) out n
-
-    number : (n : ℕ) → drivesBy g (d n) out (d n .number) .number ≡ n
-    number zero = refl
-    number (suc n) = refl
 
 -- ---- fill
 

@@ -1,11 +1,6 @@
 pub mod Answers
-pub mod Bytes
 pub mod Calls
-pub mod Compiled
+pub mod Done
 pub mod Editing
 pub mod Edits
-pub mod Fitting
 pub mod Limits
-pub mod Paired
-pub mod Reaching
-pub mod Version

@@ -17,9 +17,9 @@ use Rattle.laws.specs.Counting.{at-number}
 use Rattle.laws.specs.Loadable.{Loadable}
 use Rattle.text.specs.Records.{noDevice}
 use Rattle.text.specs.Agreement.{loaded-map}
-use Rattle.frames.specs.declared.edit_frame.Found.{Found}
-use Rattle.frames.specs.declared.edit_frame.Found.the-variants.{At, Missing}
-use Rattle.frames.specs.Found.{FoundIs}
+use Rattle.edit_frame.specs.declared.Found.{Found}
+use Rattle.edit_frame.specs.declared.Found.the-variants.{At, Missing}
+use Rattle.edit_frame.specs.Found.{FoundIs}
 use Rattle.hierarchy.specs.declared.Rule.{Rule}
 use Rattle.ceiling.specs.Rows.{rowsHolding, front-holders}
 use Rattle.survey.specs.Rows.{same-is}
@@ -29,7 +29,7 @@ use Rattle.survey.specs.Between.{Between, fresh-is, old-table}
 use Rattle.engine.specs.declared.limit.Limit.{Limit}
 use Rattle.engine.specs.Answers.{ceilingAnswer}
 use Rattle.engine.specs.Calls.{whole-no, whole-yes}
-use Rattle.engine.specs.Compiled.{Compiled}
+use Rattle.loaded.specs.Compiled.{Compiled}
 
 -- a refusal with number n
 abbrev pub refusedCeiling : ℕ → CeilingAnswer

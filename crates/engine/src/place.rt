@@ -2,10 +2,10 @@
 ghost use mathlib.Core.Path.{_≡_};
 ghost use Rattle.definitions.specs.Calls.{placeOf};
 ghost use Rattle.engine.specs.Answers.{placeAnswer};
-use crate::row;
 use blocks::widths;
 use frames::records;
 use frames::shape;
+use loaded::row;
 
 // The number of the first question answered no, or 0, how many places were written, and the tries.
 #[repr(C)]
@@ -16,7 +16,7 @@ pub struct Placing {
 }
 
 // A refusal: its number and counts of zero.
-pub(crate) fn refused(number: u32) -> Placing
+pub fn refused(number: u32) -> Placing
     ensures { λ r. ⌜ r ≡ record { number = number; places = 0; tries = 0 } ⌝ }
 {
     Placing {

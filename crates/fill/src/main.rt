@@ -2,7 +2,7 @@
 // its refusal.
 ghost use mathlib.Core.Path.{_≡_};
 ghost use lib.ListN.{length};
-use report::asked::Program;
+use protocol::asked::Program;
 
 // "It lends 64 KiB to the table": places of 16 bits.
 fn table_space() -> [u16; 32768]

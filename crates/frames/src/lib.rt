@@ -1,6 +1,5 @@
 // Reading the map's text, asking it the first four questions, and writing an edit into it.
 pub mod digits;
-pub mod edit_frame;
 pub mod lines;
 pub mod records;
 pub mod shape;

@@ -2,7 +2,7 @@
 // from call to call; prints the row of each group, then each edit's moves or its refusal, for a line `2c` the map as frames, for `2d` the rows.
 ghost use mathlib.Core.Path.{_≡_};
 ghost use lib.ListN.{length};
-use report::asked::Program;
+use protocol::asked::Program;
 
 // The largest table that there is, 65,536 groups of 32 places: 4 MiB.
 fn table_space() -> [u16; 2097152]

@@ -18,9 +18,10 @@ use Rattle.text.specs.Lines.{plain}
 use Rattle.text.specs.Loading.{loaded}
 use Rattle.text.specs.Agreement.{loaded-map, written-loads}
 use Rattle.engine.specs.Calls.{write-0}
-use Rattle.report.specs.declared.asked.Program.{Program}
-use Rattle.report.specs.declared.asked.Program.the-variants.{Operate}
-use Rattle.report.specs.Edits.{Session, isEdit, edited, askedOf, framesBy, saysOf, lineOf, byteOf, behind, bytesOf, session}
+use Rattle.protocol.specs.declared.asked.Program.{Program}
+use Rattle.protocol.specs.declared.asked.Program.the-variants.{Operate}
+use Rattle.protocol.specs.Asked.{askedOf}
+use Rattle.report.specs.Edits.{Session, isEdit, edited, framesBy, saysOf, lineOf, byteOf, behind, bytesOf, session}
 use Rattle.report.specs.Kept.{all-yes, malformed, line-asked}
 
 -- ---- a line leaves a map that loads

@@ -7,16 +7,15 @@ use lib.Dec.{eqb}
 use lib.ListN.{take}
 use Rattle.definitions.specs.declared.Change.{Change}
 use Rattle.definitions.specs.declared.Change.the-variants.{Acceptance, Weight, Malformed}
-use Rattle.definitions.specs.Lists.{same}
 use Rattle.definitions.specs.Map.{Map, mapOf}
 use Rattle.definitions.specs.Rule.{widthOf}
 use Rattle.definitions.specs.Edit.{changeOf}
 use Rattle.definitions.specs.Calls.{EditAnswer, editOf, WriteAnswer, writeOf, fillNumber}
-use Rattle.report.specs.declared.asked.Program.{Program}
-use Rattle.report.specs.declared.asked.Program.the-variants.{Fill, Operate}
-use Rattle.report.specs.declared.asked.Asked.{Asked}
-use Rattle.report.specs.declared.asked.Asked.the-variants.{Frames, Rows, Nothing}
-use Rattle.report.specs.Lines.{refusalLine, rowLines}
+use Rattle.protocol.specs.declared.asked.Program.{Program}
+use Rattle.protocol.specs.declared.asked.Asked.{Asked}
+use Rattle.protocol.specs.declared.asked.Asked.the-variants.{Frames, Rows, Nothing}
+use Rattle.protocol.specs.Asked.{askedOf}
+use Rattle.protocol.specs.Lines.{refusalLine, rowLines}
 
 -- the map, the table and the line under way between two bytes of the input, and what the last one printed
 pub record Session : Type 0 where
@@ -37,11 +36,6 @@ printedBy (suc k) a = refusalLine (suc k)
 
 abbrev pub edited : EditAnswer → Session
 edited a = record { frames = a .frames; table = a .table; line = []; printed = printedBy (a .number) a }
-
--- what a line of no edit form asks for: of `operate` the line `2c` the map as frames, and `2d` the table as rows
-unfoldable pub askedOf : Program → List ℕ → Asked
-askedOf Fill line = Nothing
-askedOf Operate line = cond (same line (50 ∷ 99 ∷ [])) Frames (cond (same line (50 ∷ 100 ∷ [])) Rows Nothing)
 
 -- the map as write leaves it in the space, or the refusal of write
 unfoldable pub framesBy : ℕ → WriteAnswer → List ℕ

@@ -1,26 +1,26 @@
 -- What is kept of a line decides what the line does: an edit frame has 14 bytes, and 15 are kept. Assumes nothing.
 use mathlib.Core.Path.{_≡_, refl, sym, ap, _∙_}
-use mathlib.Core.Bool.{Bool, true, false, cond, _&&_}
+use mathlib.Core.Bool.{Bool, true, false, cond}
 use mathlib.Core.List.{List, [], _∷_, _++_}
 use Prim.Native.Nat.{ℕ, zero, suc, _+_, _*_, _<_, _≤_}
 use native.Mathlib.Omega.{arith}
 use native.Mathlib.Numerals.{add-one}
 use native.Mathlib.Decide.{decLt}
-use lib.ListN.{length, getD, take, set, length-take, length-append, length-set}
+use lib.ListN.{length, take, set, length-take, length-append, length-set}
 use lib.Seq.{take-all, take-append-le, take-suc-set, length-take-le}
-use lib.Dec.{eqb}
 use borrow.Author.Tests.{eq-eqb, ne-eqb, leb-true}
 use Rattle.definitions.specs.declared.Change.the-variants.{Malformed}
-use Rattle.definitions.specs.Lists.{same, firstNo}
+use Rattle.definitions.specs.Lists.{firstNo}
 use Rattle.definitions.specs.Edit.{changeOf}
 use Rattle.definitions.specs.Calls.{roomForMoves, EditAnswer, EditCase, caseOf, editNumber, editBy, editAnswer, editOf}
 use Rattle.report.specs.declared.edits.Line.{Line}
 use Rattle.report.specs.declared.edits.Said.{Said}
 use Rattle.report.specs.declared.edits.Turn.{Turn}
-use Rattle.report.specs.declared.asked.Program.{Program}
-use Rattle.report.specs.declared.asked.Program.the-variants.{Fill, Operate}
-use Rattle.report.specs.Lines.{refusalLine}
-use Rattle.report.specs.Edits.{Session, isEdit, printedBy, edited, askedOf, saysOf, lineOf, byteOf, endOf}
+use Rattle.protocol.specs.declared.asked.Program.{Program}
+use Rattle.protocol.specs.Lines.{refusalLine}
+use Rattle.protocol.specs.Asked.{askedOf}
+use Rattle.protocol.specs.TwoBytes.{asked-other}
+use Rattle.report.specs.Edits.{Session, isEdit, printedBy, edited, saysOf, lineOf, byteOf, endOf}
 use Rattle.report.specs.Says.{Says, says-front}
 
 -- the line l keeps the front of the bytes xs
@@ -101,39 +101,6 @@ change-kept xs = go (decLt (length xs) 15)
     go (yes h) = ap changeOf (take-all 15 xs (omega arith))
     go (no h) =
         malformed (take 15 xs) (λ e. omega (arith, e, length-take-le 15 xs (omega arith))) ∙ sym (malformed xs (λ e. omega (arith, e, h)))
-
--- a call has two bytes
-pub other : (ys : List ℕ) (a b : ℕ) → (length ys ≡ 2 → ⊥) → same ys (a ∷ b ∷ []) ≡ false
-unfolding same
-other [] a b h = refl
-other (y ∷ []) a b h = first (eqb y a)
-  where
-    first : (q : Bool) → (q && false) ≡ false
-    first true = refl
-    first false = refl
-other (y ∷ z ∷ []) a b h = absurd (h refl)
-other (y ∷ z ∷ x ∷ ys) a b h = both (eqb y a) (eqb z b)
-  where
-    both : (q r : Bool) → (q && (r && false)) ≡ false
-    both true true = refl
-    both true false = refl
-    both false r = refl
-
-pub call-two : (ys : List ℕ) (a b : ℕ) → length ys ≡ 2 → same ys (a ∷ b ∷ []) ≡ (eqb (getD ys 0 0) a && eqb (getD ys 1 0) b)
-unfolding same
-call-two [] a b h = absurd (omega (arith, h))
-call-two (y ∷ []) a b h = absurd (omega (arith, h))
-call-two (y ∷ z ∷ []) a b h = ap (λ (q : Bool). eqb y a && q) (last (eqb z b))
-  where
-    last : (q : Bool) → (q && true) ≡ q
-    last true = refl
-    last false = refl
-call-two (y ∷ z ∷ x ∷ ys) a b h = absurd (omega (arith, h))
-
-asked-other : (p : Program) (ys zs : List ℕ) → (length ys ≡ 2 → ⊥) → (length zs ≡ 2 → ⊥) → askedOf p ys ≡ askedOf p zs
-unfolding askedOf
-asked-other Fill ys zs h k = refl
-asked-other Operate ys zs h k = rw (other ys 50 99 h, other ys 50 100 h, other zs 50 99 k, other zs 50 100 k)
 
 asked-kept : (p : Program) (xs : List ℕ) → askedOf p (take 15 xs) ≡ askedOf p xs
 asked-kept p xs = go (decLt (length xs) 15)

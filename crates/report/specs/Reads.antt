@@ -12,14 +12,15 @@ use Rattle.definitions.specs.Edit.{movesBytes}
 use Rattle.definitions.specs.Map.{mapOf}
 use Rattle.definitions.specs.Writing.{mapText}
 use Rattle.definitions.specs.Calls.{roomForFrames, roomForMoves, EditCase, caseOf, editNumber, editBy, editAnswer, editOf, writeNumber, writeBy, writeOf}
-use Rattle.survey.specs.Changes.{length-bytes}
+use Rattle.moves.specs.Changes.{length-bytes}
 use Rattle.report.specs.declared.edits.Line.{Line}
 use Rattle.report.specs.declared.edits.Said.{Said}
 use Rattle.report.specs.declared.edits.Turn.{Turn}
-use Rattle.report.specs.declared.asked.Program.{Program}
-use Rattle.report.specs.declared.asked.Asked.{Asked}
-use Rattle.report.specs.declared.asked.Asked.the-variants.{Frames, Rows, Nothing}
-use Rattle.report.specs.Edits.{Session, printedBy, edited, askedOf, framesBy, saysOf, lineOf, byteOf, behind, bytesOf, session, endOf}
+use Rattle.protocol.specs.declared.asked.Program.{Program}
+use Rattle.protocol.specs.declared.asked.Asked.{Asked}
+use Rattle.protocol.specs.declared.asked.Asked.the-variants.{Frames, Rows, Nothing}
+use Rattle.protocol.specs.Asked.{askedOf}
+use Rattle.report.specs.Edits.{Session, printedBy, edited, framesBy, saysOf, lineOf, byteOf, behind, bytesOf, session, endOf}
 use Rattle.report.specs.Says.{says-none}
 use Rattle.report.specs.Kept.{Keeps, Answers, Stands, byte-other}
 

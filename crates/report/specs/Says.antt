@@ -16,8 +16,8 @@ use Rattle.laws.specs.Loadable.{ranged-is, slim-is}
 use Rattle.text.specs.Loading.{loaded}
 use Rattle.engine.specs.Calls.{whole-no, whole-yes, sizes-load, sizes-0}
 use Rattle.report.specs.declared.edits.Said.{Said}
-use Rattle.report.specs.declared.asked.Asked.the-variants.{Frames, Rows}
-use Rattle.report.specs.Lines.{refusalLine, rowLines}
+use Rattle.protocol.specs.declared.asked.Asked.the-variants.{Frames, Rows}
+use Rattle.protocol.specs.Lines.{refusalLine, rowLines}
 use Rattle.report.specs.Edits.{framesBy, rowsBy, saysOf}
 
 -- what is printed: bytes at the front of the space, then rows of the table

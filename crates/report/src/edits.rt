@@ -5,17 +5,16 @@ ghost use mathlib.Core.List.{List, [], _∷_, _++_};
 ghost use Prim.Native.Nat.{ℕ, _<_, _≤_};
 ghost use lib.ListN.{length, take};
 ghost use Rattle.definitions.specs.Edit.{changeOf};
-ghost use Rattle.report.specs.Lines.{refusalLine};
+ghost use Rattle.protocol.specs.Lines.{refusalLine};
 ghost use Rattle.report.specs.Edits.{isEdit, saysOf, lineOf, byteOf, session, bytesOf, endOf};
 ghost use Rattle.report.specs.Says.{Says, Within};
 ghost use Rattle.report.specs.Kept.{Keeps, Answers, Stands};
 ghost use Rattle.report.specs.Reads.{Lengthens};
-use crate::asked;
-use crate::asked::Asked;
-use crate::asked::Program;
-use crate::lines;
 use definitions::Change;
-use frames::edit_frame;
+use protocol::asked;
+use protocol::asked::Asked;
+use protocol::asked::Program;
+use protocol::printed;
 
 // A line under way. At most 15 of its bytes are kept, one more than an edit frame has: a longer line stays of no edit form.
 pub struct Line {
@@ -107,7 +106,7 @@ fn refuse(number: u32, space: &mut [u8]) -> Said
     requires { ⌜ 5 ≤ length (now space) ⌝ }
     ensures { λ r. ⌜ ((table : List ℕ) → Says r table (now (space .exit)) (refusalLine number)) ⌝ }
 {
-    lines::refusal_line(number, &mut space[..5]);
+    printed::refusal_line(number, &mut space[..5]);
     front(5)
 }
 

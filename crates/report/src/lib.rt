@@ -1,5 +1,3 @@
-// Document 01, "Samples": which of its input program `fill` takes as the map, and the lines that it prints; and the same of program `operate`.
-pub mod asked;
+// Document 01, "Samples": what each line behind the map does to the map and the table in program `fill`, and what it prints; and the same of
+// program `operate`.
 pub mod edits;
-pub mod input;
-pub mod lines;

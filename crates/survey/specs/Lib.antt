@@ -4,5 +4,3 @@ pub mod Places
 pub mod Surveyed
 pub mod Between
 pub mod Held
-pub mod Changes
-pub mod Applied

@@ -5,7 +5,6 @@ use definitions::Change;
 use engine::limit;
 use engine::limit::Limit;
 use frames::digits;
-use frames::edit_frame;
 use report::edits::Line;
 
 // A line before its edit is made: whether it is one of an acceptance, its device, whether the value rises, and the ceiling that is told with the

@@ -9,7 +9,7 @@ ghost use lib.ListN.{length};
 use frames::digits;
 use libc::STDOUT_FILENO;
 use limits::Limits;
-use report::asked::Program;
+use protocol::asked::Program;
 use report::edits;
 use report::edits::Line;
 
@@ -114,7 +114,7 @@ fn front_agrees(space: &[u8], n: usize, want: &[u8], at: usize) -> usize
 
 fn refusal_agrees(number: u32, want: &[u8]) -> usize {
     let mut line = [0u8; 5];
-    report::lines::refusal_line(number, &mut line);
+    protocol::printed::refusal_line(number, &mut line);
     agree(want, 0, &line)
 }
 
@@ -131,7 +131,7 @@ fn tries_agree(tries: u32, want: &[u8], at: usize) -> usize {
 fn row_agrees(group: u32, row: &[u16], line: &mut [u8], want: &[u8], at: usize) -> usize
     requires { ⌜ (length (now line) ≡ 11 + 4 * length (now row)) × (length (now row) ≤ 32) ⌝ }
 {
-    report::lines::row_line(group, row, line);
+    protocol::printed::row_line(group, row, line);
     agree(want, at, line)
 }
 

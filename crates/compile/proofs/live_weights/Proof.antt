@@ -7,7 +7,7 @@ use lib.ListN.{length, getD-replicate}
 use borrow.Author.Needs.{needs}
 use Rattle.definitions.specs.Map.{Map}
 use Rattle.definitions.specs.View.{acceptanceOf}
-use Rattle.compile.specs.Tables.{Tabled}
+use Rattle.hierarchy.specs.Tables.{Tabled}
 use Rattle.compile.specs.Compiled.{Weighs}
 use Rattle.compile.specs.Living.{living, liveWeight, living-weighs}
 use Rattle.compile.proofs.live_weights.Statement.{statement}

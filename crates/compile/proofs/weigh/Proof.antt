@@ -1,7 +1,7 @@
 -- `compile::weigh` meets its contract: the devices are the edited map's, of which the plan is the same. Assumes nothing.
 use Rattle.definitions.specs.Map.{Map, mapOf}
 use Rattle.definitions.specs.Edit.{put}
-use Rattle.compile.specs.Tables.{Tabled}
+use Rattle.hierarchy.specs.Tables.{Tabled}
 use Rattle.compile.specs.Weighing.{bucketWeight}
 use Rattle.compile.specs.Compiled.{Weighs, put-planned, sound-is}
 use Rattle.compile.specs.Living.{flagged-is}

@@ -11,7 +11,7 @@ use Rattle.laws.specs.Loadable.{in-blocks, ranged-is}
 use Rattle.text.specs.Loading.{loaded}
 use Rattle.text.specs.Records.{shape-devices}
 use Rattle.engine.specs.Edits.{edit-14, edit-16, edit-17, edit-18}
-use Rattle.engine.specs.Fitting.{fitted-at, fitted-none}
+use Rattle.editing.specs.Fitting.{fitted-at, fitted-none}
 use Rattle.engine.specs.Editing.{refuses}
 use borrow.Author.Needs.{needs}
 use borrow.Author.Tests.{not-true, not-false}

@@ -10,8 +10,8 @@ use Rattle.definitions.specs.Edit.{put}
 use Rattle.text.specs.Agreement.{loaded-map}
 use Rattle.survey.specs.Between.{Between, Answers, few, selects, old-long, new-long}
 use Rattle.survey.specs.Surveyed.{fresh-rows}
-use Rattle.engine.specs.Paired.{Asked, between, both-run}
-use Rattle.engine.specs.Reaching.{reaches}
+use Rattle.editing.specs.Paired.{Asked, between, both-run}
+use Rattle.editing.specs.Reaching.{reaches}
 use Rattle.engine.specs.Editing.{room-for, stale, short, done}
 use borrow.Author.Needs.{needs}
 use borrow.Author.Tests.{not-true, not-false}

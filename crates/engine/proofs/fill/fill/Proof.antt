@@ -12,7 +12,8 @@ use Rattle.text.specs.Loading.{loaded}
 use Rattle.text.specs.Agreement.{loaded-map}
 use Rattle.compile.specs.Reading.{no-edit}
 use Rattle.engine.specs.Calls.{fill-14, fill-16}
-use Rattle.engine.specs.Compiled.{Compiled, compiled-from, compiled-runs, fill-done}
+use Rattle.loaded.specs.Compiled.{Compiled, compiled-from, compiled-runs}
+use Rattle.engine.specs.Done.{fill-done}
 use borrow.Author.Needs.{needs}
 use Rattle.engine.proofs.fill.fill.Statement.{statement}
 use Rattle.engine.proofs.fill.fill.Tie as tie

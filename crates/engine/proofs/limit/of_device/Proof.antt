@@ -9,7 +9,7 @@ use Rattle.laws.specs.Loadable.{ranged-is}
 use Rattle.text.specs.Loading.{loaded}
 use Rattle.text.specs.Agreement.{loaded-map}
 use Rattle.compile.specs.Reading.{no-edit}
-use Rattle.engine.specs.Compiled.{Compiled, compiled-from, compiled-runs}
+use Rattle.loaded.specs.Compiled.{Compiled, compiled-from, compiled-runs}
 use Rattle.survey.specs.Places.{Runs}
 use Rattle.engine.specs.Limits.{stale, told}
 use borrow.Author.Needs.{needs}

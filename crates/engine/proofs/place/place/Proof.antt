@@ -8,7 +8,7 @@ use Rattle.text.specs.Loading.{loaded}
 use Rattle.engine.specs.declared.place.Placing.{Placing}
 use Rattle.engine.specs.Answers.{placeAnswer}
 use Rattle.engine.specs.Calls.{place-14, place-15, place-16}
-use Rattle.engine.specs.Compiled.{place-done}
+use Rattle.engine.specs.Done.{place-done}
 use borrow.Author.Needs.{needs}
 use Rattle.engine.proofs.place.place.Statement.{statement}
 use Rattle.engine.proofs.place.place.Tie as tie

@@ -2,7 +2,7 @@
 use mathlib.Core.Path.{sym, ap, _∙_}
 use lib.ListN.{length}
 use lib.Seq.{take-at, length-take-le}
-use Rattle.report.specs.Written.{length-refusal}
+use Rattle.protocol.specs.Written.{length-refusal}
 use Rattle.report.specs.Says.{says-front, front-room}
 use borrow.Author.Needs.{needs}
 use Rattle.report.proofs.edits.refuse.Statement.{statement}

@@ -1,0 +1,3 @@
+pub mod Fitting
+pub mod Paired
+pub mod Reaching

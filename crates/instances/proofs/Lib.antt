@@ -1,0 +1,5 @@
+pub mod ThreeCauses
+pub mod Through
+pub mod Trees
+pub mod Blocks
+pub mod Reached
