@@ -1,5 +1,5 @@
 -- The cause of a place that a select puts out, from the cause of the place above it. Assumes nothing.
-use mathlib.Core.Path.{_≡_, refl, sym, ap, _∙_, subst}
+use mathlib.Core.Path.{_≡_, refl, sym, ap, _∙_}
 use mathlib.Core.Bool.{true, false}
 use mathlib.Core.List.{List, _++_}
 use mathlib.Core.Logic.{inl, inr, ⊎-elim}
@@ -8,8 +8,8 @@ use native.Mathlib.Nat.{eq-or-lt-of-le}
 use native.Mathlib.Omega.{arith}
 use borrow.Author.Tests.{eq-eqb, ne-eqb}
 use lib.Dec.{eqb}
-use lib.ListN.{length, getD, take, set}
-use lib.Seq.{getD-set-same, getD-set-other}
+use lib.ListN.{length, getD, take, drop, set}
+use lib.Seq.{getD-set-same, getD-set-other, take-add}
 use Rattle.definitions.specs.declared.Mode.{Mode}
 use Rattle.definitions.specs.Map.{bucketNumber}
 use Rattle.definitions.specs.View.{View}
@@ -74,33 +74,26 @@ module _ (v v′ : View) (x : ℕ) (mode : Mode) (n t : ℕ) where
         let u : eqb (a .entry) hole ≡ false = ne-eqb (a .entry) hole (λ k. h (sym q ∙ k)) in
         rw (← s, u, q) (ranks-told c a _ _ (rw g at f))
 
-  -- what is held, and what it is read as
-  pub tells-held : (above e r c : ℕ) (held held′ ns ns′ : List ℕ) → held ≡ ns → held′ ≡ ns′ → TellsUnder v v′ x mode n t held held′ above e r c
-      → TellsUnder v v′ x mode n t ns ns′ above e r c
-  tells-held above e r c held held′ ns ns′ q q′ h =
-      subst (λ (l : List ℕ). TellsUnder v v′ x mode n t l ns′ above e r c) q (subst (λ (l : List ℕ). TellsUnder v v′ x mode n t held l above e r c) q′ h)
+  -- ---- a loop over the places, by arrays that have what each run holds before place p: the first a + p and a′ + p numbers
 
-  -- ---- a loop over the places
-
-  module _ (list list′ olds news above working : List ℕ) where
-    pub tells-none : (cs : List ℕ) → TellsTo v v′ x mode n t list list′ olds news above working 0 cs
+  module _ (held held′ above working : List ℕ) (a a′ : ℕ) where
+    pub tells-none : (cs : List ℕ) → TellsTo v v′ x mode n t (take a held) (take a′ held′) (drop a held) (drop a′ held′) above working 0 cs
     unfolding TellsTo
     tells-none cs p h = absurd (omega arith)
 
-    pub tells-more : (k : ℕ) (cs : List ℕ) (c : ℕ) → k < length cs → TellsTo v v′ x mode n t list list′ olds news above working k cs
-        → TellsUnder v v′ x mode n t (list ++ take k olds) (list′ ++ take k news) (getD above (k / n) 0) (getD working (k / n) 0) (k % n + 1) c
-        → TellsTo v v′ x mode n t list list′ olds news above working (k + 1) (set cs k c)
+    pub tells-more : (k : ℕ) (cs : List ℕ) (c : ℕ) → k < length cs → TellsTo v v′ x mode n t (take a held) (take a′ held′) (drop a held) (drop a′ held′) above working k cs
+        → TellsUnder v v′ x mode n t (take (a + k) held) (take (a′ + k) held′) (getD above (k / n) 0) (getD working (k / n) 0) (k % n + 1) c
+        → TellsTo v v′ x mode n t (take a held) (take a′ held′) (drop a held) (drop a′ held′) above working (k + 1) (set cs k c)
     unfolding TellsTo
     tells-more k cs c h so one p l =
         ⊎-elim
-        (λ (q : p ≡ k). rw (q, getD-set-same cs k c 0 h) one)
+        (λ (q : p ≡ k). rw (q, getD-set-same cs k c 0 h, ← take-add a k held, ← take-add a′ k held′) one)
         (λ (q : p < k). rw (getD-set-other cs k p c 0 (λ e. omega (arith, e))) (so p q))
         (eq-or-lt-of-le (omega arith))
 
-  -- all of them, with what each run has emitted
-  pub tells-to : (olds news above working cs : List ℕ) {list list′ ls ls′ : List ℕ} {k l : ℕ} → list ≡ ls → list′ ≡ ls′ → k ≡ l
-      → TellsTo v v′ x mode n t list list′ olds news above working k cs → TellsTo v v′ x mode n t ls ls′ olds news above working l cs
-  tells-to olds news above working cs {list} {ls} {ls′} {k} q q′ e h =
-      subst (λ (i : ℕ). TellsTo v v′ x mode n t ls ls′ olds news above working i cs) e
-      (subst (λ (a : List ℕ). TellsTo v v′ x mode n t a ls′ olds news above working k cs) q
-      (subst (λ (a : List ℕ). TellsTo v v′ x mode n t list a olds news above working k cs) q′ h))
+    -- all of them
+    pub tells-to : (list list′ olds news cs : List ℕ) {k l : ℕ} → k ≡ l → ((p : ℕ) → p < l → take (a + p) held ≡ list ++ take p olds)
+        → ((p : ℕ) → p < l → take (a′ + p) held′ ≡ list′ ++ take p news) → TellsTo v v′ x mode n t (take a held) (take a′ held′) (drop a held) (drop a′ held′) above working k cs
+        → TellsTo v v′ x mode n t list list′ olds news above working l cs
+    unfolding TellsTo
+    tells-to list list′ olds news cs e q q′ so p h = rw (← q p h, ← q′ p h, take-add a p held, take-add a′ p held′) (so p (omega (arith, e, h)))

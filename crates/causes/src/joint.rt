@@ -114,7 +114,8 @@ fn select_both<'a, 'b>(
         let mut r: u32 = 0;
         while r < n {
             r += 1;
-            let c = rank_under(plan, old, new, x, wanted, a, r, &held[..e + m], f);
+            let at = e + m;
+            let c = rank_under(plan, old, new, x, wanted, a, r, &held[..at], f);
             let Course::Shared(k) = c else {
                 return Choice {
                     parted: true,
@@ -129,7 +130,7 @@ fn select_both<'a, 'b>(
             f = k.f;
             tries += walk::tries_in(k);
             if !select::leaves_out(mode, k.entry) {
-                held[e + m] = k.item;
+                held[at] = k.item;
                 items[m] = k.item;
                 entries[m] = k.entry;
                 m += 1;

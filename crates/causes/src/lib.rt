@@ -2,7 +2,8 @@
 // whose selects leave holes.
 ghost use mathlib.Core.Path.{_≡_};
 ghost use mathlib.Core.Bool.{true};
-ghost use Prim.Native.Nat.{ℕ, _/_, _<_, _≤_};
+ghost use mathlib.Core.List.{_++_};
+ghost use Prim.Native.Nat.{ℕ, _+_, _/_, _%_, _<_, _≤_};
 ghost use lib.ListN.{length, getD, take};
 ghost use Rattle.definitions.specs.Lists.{every};
 ghost use Rattle.definitions.specs.View.{View};
@@ -45,13 +46,14 @@ pub struct Both {
     pub list: [u32; 32],
 }
 
-// A place that a select works on: its entry in the old run, and its cause.
+// What a place of a select is made from: the entry in the old run and the cause of the place above it, and its rank there.
 pub struct Above {
     pub entry: u32,
     pub cause: u32,
+    pub rank: u32,
 }
 
-// The cause of the place that rank r makes under another. Walks that part above part there, whatever comes behind; under one hole there is
+// The cause of the place that a rank makes under another. Walks that part above part there, whatever comes behind; under one hole there is
 // no event.
 fn place_cause<'a, 'b, 'c>(
     plan: &'a Plan,
@@ -62,12 +64,11 @@ fn place_cause<'a, 'b, 'c>(
     olds: &'b [u32],
     news: &'c [u32],
     above: Above,
-    r: u32,
 ) -> u32
     requires { ⌜ Sound (now plan) ⌝ }
-    requires { ⌜ (wanted .n ≤ 16) × (r ≤ 16) × Inward (wanted .mode) (wanted .t) × Workable (above .entry) ⌝ }
+    requires { ⌜ (wanted .n ≤ 16) × (above .rank ≤ 16) × Inward (wanted .mode) (wanted .t) × Workable (above .entry) ⌝ }
     ensures { λ c. ⌜ TellsUnder (viewIn (now (plan .entry)) (now (old .entry))) (viewIn (now (plan .entry)) (now (new .entry)))
-        x (wanted .mode) (wanted .n) (wanted .t) (now (olds .entry)) (now (news .entry)) (above .cause) (above .entry) r c ⌝ }
+        x (wanted .mode) (wanted .n) (wanted .t) (now (olds .entry)) (now (news .entry)) (above .cause) (above .entry) (above .rank) c ⌝ }
 {
     if above.cause != 0 {
         return above.cause;
@@ -79,13 +80,44 @@ fn place_cause<'a, 'b, 'c>(
     let search = Search {
         wanted: wanted,
         start: bucket.bucket_number(),
-        r: r,
+        r: above.rank,
     };
     let k = ranks::part_rank(plan, old, new, x, search, olds, news, 0);
     match k {
         Course::Forked(p) => partings::cause(p),
         Course::Shared(_) => 0,
     }
+}
+
+// What place k of a select is made from.
+fn above_at<'a>(working: &'a [u32; 16], causes: &'a [u32; 16], n: u32, k: usize) -> Above
+    requires { ⌜ (1 ≤ n) × (k / n < 16) × (k % n < 16) ⌝ }
+    ensures { λ a. ⌜ a ≡ record { entry = getD (now (working .entry)) (k / n) 0; cause = getD (now (causes .entry)) (k / n) 0; rank = k % n + 1 } ⌝ }
+{
+    let w = n as usize;
+    let i = k / w;
+    Above {
+        entry: working[i],
+        cause: causes[i],
+        rank: (k % w) as u32 + 1,
+    }
+}
+
+// What a run holds in a select that leads it from one progress to another: what it has emitted, and behind that the items of its places.
+fn held_by(from: Progress, to: Progress) -> [u32; 48]
+    requires { ⌜ from .emitted ≤ 32 ⌝ }
+    ensures { λ r. ⌜ ((k : ℕ) → k ≤ 16 → take (from .emitted + k) r ≡ take (from .emitted) (from .list) ++ take k (to .items)) ⌝ }
+{
+    let list = from.list;
+    let e = from.emitted;
+    let items = to.items;
+    let mut held = select::held_from(&list[..e]);
+    let mut j: usize = 0;
+    while j < 16 {
+        held[e + j] = items[j];
+        j += 1;
+    }
+    held
 }
 
 // The causes of the places of a select that has led the two runs from p to o and n. Each run holds what it has emitted, and items of its own.
@@ -110,26 +142,16 @@ fn causes_of<'a>(
     let from = p.old;
     let from2 = p.new;
     let working = from.working;
-    let list = from.list;
-    let list2 = from2.list;
+    let above = p.causes;
+    let olds = held_by(from, o);
+    let news = held_by(from2, n);
     let e = from.emitted;
     let e2 = from2.emitted;
-    let above = p.causes;
-    let items = o.items;
-    let items2 = n.items;
     let len = o.len;
-    let w = wanted.n as usize;
-    let mut olds = select::held_from(&list[..e]);
-    let mut news = select::held_from(&list2[..e2]);
     let mut causes: [u32; 16] = [0; 16];
     let mut k: usize = 0;
     while k < len {
-        let i = k / w;
-        let r = (k % w) as u32 + 1;
-        let a = Above {
-            entry: working[i],
-            cause: above[i],
-        };
+        let a = above_at(&working, &above, wanted.n, k);
         causes[k] = place_cause(
             plan,
             old,
@@ -139,10 +161,7 @@ fn causes_of<'a>(
             &olds[..e + k],
             &news[..e2 + k],
             a,
-            r,
         );
-        olds[e + k] = items[k];
-        news[e2 + k] = items2[k];
         k += 1;
     }
     causes

@@ -30,7 +30,7 @@ new s = let a = s .args in viewIn (a .plan .now) (a .new .now)
 abbrev Tells : tie.Start → ℕ → Type 0
 Tells s c =
     let a = s .args in
-    TellsUnder (old s) (new s) (a .x) (a .wanted .mode) (a .wanted .n) (a .wanted .t) (a .olds .now) (a .news .now) (a .above .cause) (a .above .entry) (a .r) c
+    TellsUnder (old s) (new s) (a .x) (a .wanted .mode) (a .wanted .n) (a .wanted .t) (a .olds .now) (a .news .now) (a .above .cause) (a .above .entry) (a .above .rank) c
 
 -- what is no hole is a bucket
 bucket : (c : tie.Else2) → let e = begin2 (c .before) .args .above .entry in (65536 ≤ e) × (e < 65792)
@@ -44,13 +44,13 @@ returns : tie.Need-returns
 returns c =
     let s = begin (c .before) in
     let a = s .args in
-    tells-above (old s) (new s) (a .x) (a .wanted .mode) (a .wanted .n) (a .wanted .t) (a .olds .now) (a .news .now) (a .above .cause) (a .above .entry) (a .r) (c .if1 .taken)
+    tells-above (old s) (new s) (a .x) (a .wanted .mode) (a .wanted .n) (a .wanted .t) (a .olds .now) (a .news .now) (a .above .cause) (a .above .entry) (a .above .rank) (c .if1 .taken)
 
 returns-2 : tie.Need-returns-2
 returns-2 c =
     let s = begin2 (c .before) in
     let a = s .args in
-    tells-hole (old s) (new s) (a .x) (a .wanted .mode) (a .wanted .n) (a .wanted .t) (a .olds .now) (a .news .now) (a .above .cause) (a .above .entry) (a .r) (c .before .before .if1 .left) (c .if2 .taken)
+    tells-hole (old s) (new s) (a .x) (a .wanted .mode) (a .wanted .n) (a .wanted .t) (a .olds .now) (a .news .now) (a .above .cause) (a .above .entry) (a .above .rank) (c .before .before .if1 .left) (c .if2 .taken)
 
 numbered-requires : tie.Need-numbered-requires
 numbered-requires c κs = search needs
@@ -72,7 +72,7 @@ followed c =
     let e = c .before .before .before in
     let s = begin2 (e .before) in
     let a = s .args in
-    tells-rank (old s) (new s) (a .x) (a .wanted .mode) (a .wanted .n) (a .wanted .t) (a .olds .now) (a .news .now) (a .above .cause) (a .above .entry) (a .r) (e .before .before .if1 .left) (e .if2 .left) _ (c .part-rank .result) (number (c .before)) (c .part-rank .ensures)
+    tells-rank (old s) (new s) (a .x) (a .wanted .mode) (a .wanted .n) (a .wanted .t) (a .olds .now) (a .news .now) (a .above .cause) (a .above .entry) (a .above .rank) (e .before .before .if1 .left) (e .if2 .left) _ (c .part-rank .result) (number (c .before)) (c .part-rank .ensures)
 
 enum-known-k : tie.Need-enum-known-k
 enum-known-k c = search needs

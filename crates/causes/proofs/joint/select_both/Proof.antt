@@ -2,7 +2,6 @@
 -- under the next the ranks 1 to r are made. Assumes nothing.
 use mathlib.Core.Path.{_≡_, refl, sym, ap, _∙_, subst}
 use mathlib.Core.Bool.{false≢true}
-use mathlib.Core.List.{List, [], _++_}
 use Prim.Native.Nat.{ℕ, _+_, _-_, _*_, _<_, _≤_}
 use native.Mathlib.Omega.{arith}
 use native.Mathlib.Nat.{mul-le-mul-right, le-mul-of-pos-right}
@@ -11,52 +10,25 @@ use borrow.Author.Tests.{not-true, not-false}
 use lib.ListN.{length, getD, take}
 use lib.Seq.{getD-take, length-take-le}
 use Rattle.definitions.specs.declared.Ranked.{Ranked}
-use Rattle.definitions.specs.View.{View}
 use Rattle.laws.specs.Members.{each-at}
 use Rattle.hierarchy.specs.Arrays.{viewIn}
-use Rattle.walk.specs.declared.Wanted.{Wanted}
-use Rattle.placement.specs.declared.select.Chosen.{Chosen}
-use Rattle.placement.specs.Bare.{Bare, BareRanks, bareWith, rankedUnder, bareRanks, bareTo}
 use Rattle.placement.specs.Working.{Workable}
-use Rattle.placement.specs.Chosen.{bareIn, ranksIn, put-nothing, put-place, held-start, held-more, held-ranked, ranks-start, ranks-more, to-start, to-more, to-all}
-use Rattle.causes.specs.Joint.{Under, Shares}
+use Rattle.causes.specs.Joint.{Under, Shares, Made, made-none, made-nothing, made-place, made-entry, made-all}
 use Rattle.causes.proofs.joint.select_both.Statement.{statement}
 use Rattle.causes.proofs.joint.select_both.Tie as tie
 
--- what the first i entries of the working list give, and then the ranks 1 to r under entry a
-abbrev workedTo : View → ℕ → Wanted → List ℕ → List ℕ → ℕ → Bare
-workedTo v x k bs ws i = bareTo v x (k .mode) (k .n) (k .t) bs ws i
-
-abbrev ranksTo : View → ℕ → Wanted → List ℕ → List ℕ → ℕ → ℕ → ℕ → BareRanks
-ranksTo v x k bs ws i a r = bareRanks v x (k .mode) (k .n) (k .t) bs a (workedTo v x k bs ws i) r
-
 abbrev Inv-loop2 : tie.InvT-loop2
 Inv-loop2 plan old new x before len wanted working mode n e held₀ items₀ entries₀ m₀ tries₀ i a f₀ r₀ held items entries m tries f r =
-    (r ≤ wanted .n)
-    × ((ranksIn (record { items = items; entries = entries; len = m; tries = tries }) f ≡ ranksTo (viewIn plan old) x wanted before (take len working) i a r)
-    × (ranksIn (record { items = items; entries = entries; len = m; tries = tries }) f ≡ ranksTo (viewIn plan new) x wanted before (take len working) i a r))
-    × (m ≤ i * wanted .n + r)
-    × (tries ≤ 2550 * (i * wanted .n + r))
-    × (f ≤ 50 * r)
-    × (length items ≡ 16)
-    × (length entries ≡ 16)
-    × (length held ≡ 48)
-    × (take (e + m) held ≡ before ++ take m items)
+    (r ≤ wanted .n) × Made (viewIn plan old) x wanted before working len i r held (record { items = items; entries = entries; len = m; tries = tries }) f
+    × Made (viewIn plan new) x wanted before working len i r held (record { items = items; entries = entries; len = m; tries = tries }) f
 
 abbrev μ-loop2 : tie.MeasureT-loop2
 μ-loop2 plan old new x before len wanted working mode n e held₀ items₀ entries₀ m₀ tries₀ i a f₀ r₀ held items entries m tries f r = wanted .n - r
 
 abbrev Inv-loop : tie.InvT-loop
 Inv-loop plan old new x before len wanted working mode n e held₀ items₀ entries₀ m₀ tries₀ i₀ held items entries m tries i =
-    (i ≤ len)
-    × ((bareIn (record { items = items; entries = entries; len = m; tries = tries }) ≡ workedTo (viewIn plan old) x wanted before (take len working) i)
-    × (bareIn (record { items = items; entries = entries; len = m; tries = tries }) ≡ workedTo (viewIn plan new) x wanted before (take len working) i))
-    × (m ≤ i * wanted .n)
-    × (tries ≤ 2550 * (i * wanted .n))
-    × (length items ≡ 16)
-    × (length entries ≡ 16)
-    × (length held ≡ 48)
-    × (take (e + m) held ≡ before ++ take m items)
+    (i ≤ len) × Made (viewIn plan old) x wanted before working len i 0 held (record { items = items; entries = entries; len = m; tries = tries }) 0
+    × Made (viewIn plan new) x wanted before working len i 0 held (record { items = items; entries = entries; len = m; tries = tries }) 0
 
 abbrev μ-loop : tie.MeasureT-loop
 μ-loop plan old new x before len wanted working mode n e held₀ items₀ entries₀ m₀ tries₀ i₀ held items entries m tries i = len - i
@@ -64,13 +36,6 @@ abbrev μ-loop : tie.MeasureT-loop
 -- where the function starts, from the loop
 abbrev begin : tie.At-loop Inv-loop2 μ-loop2 Inv-loop μ-loop → tie.Start Inv-loop2 μ-loop2 Inv-loop μ-loop
 begin c = c .before .before .before
-
--- the views that the slices give
-abbrev old : tie.Start Inv-loop2 μ-loop2 Inv-loop μ-loop → View
-old s = let a = s .args in viewIn (a .plan .now) (a .old .now)
-
-abbrev new : tie.Start Inv-loop2 μ-loop2 Inv-loop μ-loop → View
-new s = let a = s .args in viewIn (a .plan .now) (a .new .now)
 
 -- the working list is within its array
 within : (s : tie.Start Inv-loop2 μ-loop2 Inv-loop μ-loop) → s .args .len ≤ length (s .args .t6)
@@ -85,23 +50,21 @@ room c =
     let s = begin (i .before) in
     omega (arith, mul-le-mul-right (s .args .wanted .n) (i .loop-test .taken), c .loop2-test .taken, s .pre .1 .1 .2)
 
--- the entry at hand is a bucket or a hole
-workable : (c : tie.In-loop Inv-loop2 μ-loop2 Inv-loop μ-loop) → Workable (getD (begin (c .before) .args .t6) (c .before .loop .i) 0)
-workable c =
-    let i = c .before .loop .i in
-    let s = begin (c .before) in
-    let a = s .args in
-    let e = length-take-le (a .len) (a .t6) (within s) in
-    subst Workable (getD-take (a .len) (a .t6) i 0 (c .loop-test .taken))
-    (each-at Workable (take (a .len) (a .t6)) i 0 (s .pre .1 .1 .3) (omega (arith, e, c .loop-test .taken)))
+-- and for a place
+free : (c : tie.In-loop2 Inv-loop2 μ-loop2 Inv-loop μ-loop) → let l = c .before .loop2 in (l .m < 16) × (length (begin (c .before .before .before) .args .before .now) + l .m < length (l .held))
+free c =
+    let h = c .before .loop2 .inv .1 in
+    let l : c .before .loop2 .m < 16 = omega (arith, h .counts .0, room c) in
+    (l, omega (arith, l, h .sized .2, begin (c .before .before .before) .pre .1 .0))
 
 held-from-requires : tie.Need-held-from-requires Inv-loop2 μ-loop2 Inv-loop μ-loop
 held-from-requires c κs = c .before .pre .1 .0
 
 loop-holds : tie.Need-loop-holds Inv-loop2 μ-loop2 Inv-loop μ-loop
 loop-holds c =
-    let b = c .before .before .args .before .now in
-    (search needs, (to-start _ _ _ _ _ _ _, to-start _ _ _ _ _ _ _), search needs, search needs, refl, refl, search needs, held-start b (c .held-from .result) [] (c .held-from .ensures))
+    let h = c .held-from in
+    let l : length (h .result) ≡ 48 = search needs in
+    (search needs, made-none _ _ _ _ _ _ _ _ _ (h .ensures) (refl, refl, l), made-none _ _ _ _ _ _ _ _ _ (h .ensures) (refl, refl, l))
 
 mul-a : tie.Need-mul-a Inv-loop2 μ-loop2 Inv-loop μ-loop
 mul-a c = let s = begin (c .before) in omega (arith, le-mul-of-pos-right (s .args .len) (s .pre .1 .1 .0))
@@ -110,32 +73,31 @@ array-read-a : tie.Need-array-read-a Inv-loop2 μ-loop2 Inv-loop μ-loop
 array-read-a c = let s = begin (c .before) in omega (arith, le-mul-of-pos-right (s .args .len) (s .pre .1 .1 .0))
 
 loop2-holds : tie.Need-loop2-holds Inv-loop2 μ-loop2 Inv-loop μ-loop
-loop2-holds c =
-    let l = c .before .loop .inv in
-    (omega arith, (ap (λ (b : Bare). record { bare = b; f = 0 }) (l .1 .0) ∙ ranks-start _ _ _ _ _ _ _ _, ap (λ (b : Bare). record { bare = b; f = 0 }) (l .1 .1) ∙ ranks-start _ _ _ _ _ _ _ _), omega (arith, l .2), omega (arith, l .3), omega arith, l .4, l .5, l .6, l .7)
+loop2-holds c = (omega arith, c .before .loop .inv .1, c .before .loop .inv .2)
 
 add-r : tie.Need-add-r Inv-loop2 μ-loop2 Inv-loop μ-loop
 add-r c = omega (arith, room c)
 
--- what is held is within its array
-held-room : (c : tie.In-loop2 Inv-loop2 μ-loop2 Inv-loop μ-loop) → let l = c .before .loop2 in length (begin (c .before .before .before) .args .before .now) + l .m < length (l .held)
-held-room c = let l = c .before .loop2 in omega (arith, l .inv .2, l .inv .7, room c, begin (c .before .before .before) .pre .1 .0)
-
-add-held : tie.Need-add-held Inv-loop2 μ-loop2 Inv-loop μ-loop
-add-held c = omega (arith, held-room c)
+add-at : tie.Need-add-at Inv-loop2 μ-loop2 Inv-loop μ-loop
+add-at c = omega (arith, free c .1)
 
 array-share-prefix-held : tie.Need-array-share-prefix-held Inv-loop2 μ-loop2 Inv-loop μ-loop
-array-share-prefix-held c = omega (arith, held-room c)
+array-share-prefix-held c = omega (arith, free c .1)
 
 slice-aggregate-rank-under : tie.Need-slice-aggregate-rank-under Inv-loop2 μ-loop2 Inv-loop μ-loop
-slice-aggregate-rank-under c = sym (length-take-le _ _ (omega (arith, held-room (c .before))))
+slice-aggregate-rank-under c = sym (length-take-le _ _ (array-share-prefix-held (c .before)))
 
 rank-under-requires : tie.Need-rank-under-requires Inv-loop2 μ-loop2 Inv-loop μ-loop
 rank-under-requires c κs =
     let l = c .before .before .loop2 in
     let i = c .before .before .before in
-    let p = begin (i .before) .pre in
-    (p .0, (p .1 .1 .1, omega (arith, room (c .before)), p .1 .1 .4, workable i, omega (arith, l .inv .4, room (c .before))))
+    let k = i .before .loop .i in
+    let s = begin (i .before) in
+    let a = s .args in
+    let p = s .pre .1 .1 in
+    let e = length-take-le (a .len) (a .t6) (within s) in
+    let w = subst Workable (getD-take (a .len) (a .t6) k 0 (i .loop-test .taken)) (each-at Workable (take (a .len) (a .t6)) k 0 (p .3) (omega (arith, e, i .loop-test .taken))) in
+    (s .pre .0, (p .1, omega (arith, room (c .before)), p .4, w, omega (arith, l .inv .1 .counts .2, room (c .before))))
 
 enum-known-c : tie.Need-enum-known-c Inv-loop2 μ-loop2 Inv-loop μ-loop
 enum-known-c c = search needs
@@ -155,120 +117,63 @@ abbrev turn : tie.After-c Inv-loop2 μ-loop2 Inv-loop μ-loop → tie.In-loop2 I
 turn c = c .before .before .before .before
 
 under : (c : tie.After-c Inv-loop2 μ-loop2 Inv-loop μ-loop)
-    → let j = turn c in let l = j .before .loop2 in let i = j .before .before in let s = begin (i .before) in let a = s .args in
-    Under (old s) (new s) (a .x) (a .wanted) (getD (a .t6) (i .before .loop .i) 0) (l .r + 1) (take (length (a .before .now) + l .m) (l .held)) (l .f) (ranked c)
-under c =
-    let j = turn c in
-    let l = j .before .loop2 in
-    let i = j .before .before in
-    let s = begin (i .before) in
-    let a = s .args in
-    subst (Shares (Under (old s) (new s) (a .x) (a .wanted) (getD (a .t6) (i .before .loop .i) 0) (l .r + 1) (take (length (a .before .now) + l .m) (l .held)) (l .f)))
-    (c .c .given .1) (c .before .before .rank-under .ensures)
+    → let j = turn c in let l = j .before .loop2 in let i = j .before .before in let a = begin (i .before) .args in
+    Under (viewIn (a .plan .now) (a .old .now)) (viewIn (a .plan .now) (a .new .now)) (a .x) (a .wanted) (getD (a .t6) (i .before .loop .i) 0) (l .r + 1) (take (length (a .before .now) + l .m) (l .held)) (l .f) (ranked c)
+under c = subst (Shares _) (c .c .given .1) (c .before .before .rank-under .ensures)
 
 tries-in-requires : tie.Need-tries-in-requires Inv-loop2 μ-loop2 Inv-loop μ-loop
 tries-in-requires c κs = let b = under (c .before) .2 in (b .0, b .2)
 
--- the arrays before a rank
-abbrev chosen : tie.In-loop2 Inv-loop2 μ-loop2 Inv-loop μ-loop → Chosen
-chosen c = let l = c .before .loop2 in record { items = l .items; entries = l .entries; len = l .m; tries = l .tries }
-
--- its tries, at most 2,550, are counted
-counted : (c : tie.After-tries-in Inv-loop2 μ-loop2 Inv-loop μ-loop)
-    → let j = turn (c .before .before) in let i = j .before .before in
-    j .before .loop2 .tries + c .tries-in .result ≤ 2550 * (i .before .loop .i * begin (i .before) .args .wanted .n + (j .before .loop2 .r + 1))
-counted c =
-    let k = c .before .before in
-    omega (arith, turn k .before .loop2 .inv .3, c .tries-in .ensures, under k .2 .3)
-
--- what it leads to in a run, by what is made of it
-next : (c : tie.After-tries-in Inv-loop2 μ-loop2 Inv-loop μ-loop) (v : View) (d : BareRanks)
-    → let k = c .before .before in let j = turn k in let l = j .before .loop2 in let i = j .before .before in let o = i .before .loop .i in let s = begin (i .before) in let a = s .args in
-    ranksIn (chosen j) (l .f) ≡ ranksTo v (a .x) (a .wanted) (a .before .now) (take (a .len) (a .t6)) o (getD (a .t6) o 0) (l .r)
-    → ranked k ≡ rankedUnder v (a .x) (a .wanted .mode) (a .wanted .n) (a .wanted .t) (getD (a .t6) o 0) (l .r + 1) (take (length (a .before .now) + l .m) (l .held)) (l .f)
-    → d ≡ bareWith (a .wanted .mode) (ranksIn (chosen j) (l .f)) (ranked k)
-    → d ≡ ranksTo v (a .x) (a .wanted) (a .before .now) (take (a .len) (a .t6)) o (getD (a .t6) o 0) (l .r + 1)
-next c v d so is e =
-    let k = c .before .before in
-    let j = turn k in
-    let l = j .before .loop2 in
-    let i = j .before .before in
-    let a = begin (i .before) .args in
-    let w = a .wanted in
-    let b = a .before .now in
-    let up = getD (a .t6) (i .before .loop .i) 0 in
-    ranks-more _ _ _ _ _ _ _ _ (l .r) (ranksIn (chosen j) (l .f)) d (ranked k) so
-    (held-ranked v (a .x) (w .mode) (w .n) (w .t) up (l .r + 1) (l .f) (take (length b + l .m) (l .held)) (b ++ take (l .m) (l .items)) (ranked k) (l .inv .8) is)
-    e
-
--- and in both
-nexts : (c : tie.After-tries-in Inv-loop2 μ-loop2 Inv-loop μ-loop) (d : BareRanks)
-    → let k = c .before .before in let j = turn k in let l = j .before .loop2 in let i = j .before .before in let o = i .before .loop .i in let s = begin (i .before) in let a = s .args in
-    d ≡ bareWith (a .wanted .mode) (ranksIn (chosen j) (l .f)) (ranked k)
-    → (d ≡ ranksTo (old s) (a .x) (a .wanted) (a .before .now) (take (a .len) (a .t6)) o (getD (a .t6) o 0) (l .r + 1))
-    × (d ≡ ranksTo (new s) (a .x) (a .wanted) (a .before .now) (take (a .len) (a .t6)) o (getD (a .t6) o 0) (l .r + 1))
-nexts c d e =
-    let k = c .before .before in
-    let j = turn k in
-    let s = begin (j .before .before .before) in
-    let l = j .before .loop2 .inv .1 in
-    (next c (old s) d (l .0) (under k .0) e, next c (new s) d (l .1) (under k .1) e)
-
 add-tries : tie.Need-add-tries Inv-loop2 μ-loop2 Inv-loop μ-loop
-add-tries c = omega (arith, counted c, room (turn (c .before .before)))
+add-tries c =
+    let k = c .before .before in
+    omega (arith, turn k .before .loop2 .inv .1 .counts .1, c .tries-in .ensures, under k .2 .3, room (turn k))
 
 leaves-out-requires : tie.Need-leaves-out-requires Inv-loop2 μ-loop2 Inv-loop μ-loop
 leaves-out-requires c κs = tt
 
--- there is room for a place
-free : (c : tie.Then1 Inv-loop2 μ-loop2 Inv-loop μ-loop) → turn (c .before .before .before .before) .before .loop2 .m < 16
-free c = let j = turn (c .before .before .before .before) in omega (arith, j .before .loop2 .inv .2, room j)
-
-add-held-2 : tie.Need-add-held-2 Inv-loop2 μ-loop2 Inv-loop μ-loop
-add-held-2 c = omega (arith, held-room (turn (c .before .before .before .before)))
+-- what there is room for, where a place is put
+abbrev put : tie.Then1 Inv-loop2 μ-loop2 Inv-loop μ-loop → tie.In-loop2 Inv-loop2 μ-loop2 Inv-loop μ-loop
+put c = turn (c .before .before .before .before)
 
 mul-held : tie.Need-mul-held Inv-loop2 μ-loop2 Inv-loop μ-loop
-mul-held c = omega (arith, held-room (turn (c .before .before .before .before)))
+mul-held c = omega (arith, free (put c) .1)
 
 array-write-held : tie.Need-array-write-held Inv-loop2 μ-loop2 Inv-loop μ-loop
-array-write-held c = omega (arith, held-room (turn (c .before .before .before .before)))
+array-write-held c = omega (arith, free (put c) .1)
 
 mul-items : tie.Need-mul-items Inv-loop2 μ-loop2 Inv-loop μ-loop
-mul-items c = omega (arith, free c)
+mul-items c = omega (arith, free (put c) .0)
 
 array-write-items : tie.Need-array-write-items Inv-loop2 μ-loop2 Inv-loop μ-loop
-array-write-items c = omega (arith, free c)
+array-write-items c = omega (arith, free (put c) .0)
 
 mul-entries : tie.Need-mul-entries Inv-loop2 μ-loop2 Inv-loop μ-loop
-mul-entries c = omega (arith, free c)
+mul-entries c = omega (arith, free (put c) .0)
 
 array-write-entries : tie.Need-array-write-entries Inv-loop2 μ-loop2 Inv-loop μ-loop
-array-write-entries c = omega (arith, free c)
+array-write-entries c = omega (arith, free (put c) .0)
 
 add-m : tie.Need-add-m Inv-loop2 μ-loop2 Inv-loop μ-loop
-add-m c = omega (arith, free c)
+add-m c = omega (arith, free (put c) .0)
 
 loop2-less : tie.Need-loop2-less Inv-loop2 μ-loop2 Inv-loop μ-loop
-loop2-less c = omega (arith, turn (c .before .before .before .before) .loop2-test .taken)
+loop2-less c = omega (arith, put c .loop2-test .taken)
 
 loop2-again : tie.Need-loop2-again Inv-loop2 μ-loop2 Inv-loop μ-loop
 loop2-again c =
     let t = c .before .before in
     let k = t .before .before in
     let j = turn k in
-    let l = j .before .loop2 in
-    let b = begin (j .before .before .before) .args .before .now in
+    let h = j .before .loop2 .inv in
+    let b = begin (j .before .before .before) .pre .1 .0 in
+    let w = t .tries-in in
+    let u = under k in
     let o = c .before .leaves-out in
-    let put = sym (o .ensures) ∙ not-true (o .result) (c .if1 .taken) in (
+    let q = sym (o .ensures) ∙ not-true (o .result) (c .if1 .taken) in (
       omega (arith, j .loop2-test .taken),
-      nexts t _ (put-place _ (chosen j) (l .f) (ranked k) (t .tries-in .result) (t .tries-in .ensures) put (omega (arith, free c, l .inv .5)) (omega (arith, free c, l .inv .6))),
-      omega (arith, l .inv .2),
-      counted t,
-      omega (arith, under k .2 .1, l .inv .4),
-      search (needs, l .inv .5),
-      search (needs, l .inv .6),
-      search (needs, l .inv .7),
-      held-more b (l .held) (l .items) (length b) (l .m) (ranked k .item) (l .inv .8) (held-room j) (omega (arith, free c, l .inv .5)),
+      made-place (h .1) (ranked k) (w .result) (u .0) (u .2) (w .ensures) q b (free j .0),
+      made-place (h .2) (ranked k) (w .result) (u .1) (u .2) (w .ensures) q b (free j .0),
     )
 
 loop2-less-2 : tie.Need-loop2-less-2 Inv-loop2 μ-loop2 Inv-loop μ-loop
@@ -279,18 +184,14 @@ loop2-again-2 c =
     let t = c .before .before in
     let k = t .before .before in
     let j = turn k in
-    let l = j .before .loop2 in
+    let h = j .before .loop2 .inv in
+    let w = t .tries-in in
+    let u = under k in
     let o = c .before .leaves-out in
-    let out = sym (o .ensures) ∙ not-false (o .result) (c .if1 .left) in (
+    let q = sym (o .ensures) ∙ not-false (o .result) (c .if1 .left) in (
       omega (arith, j .loop2-test .taken),
-      nexts t _ (put-nothing _ (chosen j) (l .f) (ranked k) (t .tries-in .result) (t .tries-in .ensures) out),
-      omega (arith, l .inv .2),
-      counted t,
-      omega (arith, under k .2 .1, l .inv .4),
-      l .inv .5,
-      l .inv .6,
-      l .inv .7,
-      l .inv .8,
+      made-nothing (h .1) (ranked k) (w .result) (u .0) (u .2) (w .ensures) q,
+      made-nothing (h .2) (ranked k) (w .result) (u .1) (u .2) (w .ensures) q,
     )
 
 add-i : tie.Need-add-i Inv-loop2 μ-loop2 Inv-loop μ-loop
@@ -304,33 +205,19 @@ loop-again c =
     let l = c .before .loop2 in
     let i = c .before .before in
     let s = begin (i .before) in
-    let a = s .args in
-    let e : l .r ≡ a .wanted .n = omega (arith, l .inv .0, c .loop2-test .left) in (
-      omega (arith, i .loop-test .taken),
-      (
-        to-more _ _ _ _ _ _ (a .t6) (a .len) (i .before .loop .i) (l .r) _ (i .loop-test .taken) (within s) e (l .inv .1 .0),
-        to-more _ _ _ _ _ _ (a .t6) (a .len) (i .before .loop .i) (l .r) _ (i .loop-test .taken) (within s) e (l .inv .1 .1),
-      ),
-      omega (arith, l .inv .2, e),
-      omega (arith, l .inv .3, e),
-      l .inv .5,
-      l .inv .6,
-      l .inv .7,
-      l .inv .8,
-    )
+    let h = i .loop-test .taken in
+    let e : l .r ≡ s .args .wanted .n = omega (arith, l .inv .0, c .loop2-test .left) in
+    (omega (arith, h), made-entry (l .inv .1) h (within s) e, made-entry (l .inv .2) h (within s) e)
 
 returns-2 : tie.Need-returns-2 Inv-loop2 μ-loop2 Inv-loop μ-loop
 returns-2 c z =
     let l = c .before .loop in
+    let h = l .inv .1 in
     let s = begin (c .before) in
     let a = s .args in
     let e : l .i ≡ a .len = omega arith in
-    let m : l .i * a .wanted .n ≡ a .len * a .wanted .n = ap (λ (k : ℕ). k * a .wanted .n) e in (
-      to-all _ _ _ _ _ _ (a .t6) (a .len) (l .i) _ e (within s) (l .inv .1 .0),
-      to-all _ _ _ _ _ _ (a .t6) (a .len) (l .i) _ e (within s) (l .inv .1 .1),
-      omega (arith, m, l .inv .2),
-      omega (arith, m, l .inv .3, s .pre .1 .1 .2),
-    )
+    let m : l .i * a .wanted .n ≡ a .len * a .wanted .n = ap (λ (k : ℕ). k * a .wanted .n) e in
+    (made-all h e (within s), made-all (l .inv .2) e (within s), omega (arith, m, h .counts .0), omega (arith, m, h .counts .1, s .pre .1 .1 .2))
 
 pub select-both-spec : {M : Type 1} → statement M
 select-both-spec =
@@ -346,7 +233,7 @@ select-both-spec =
     array-read-a
     loop2-holds
     add-r
-    add-held
+    add-at
     array-share-prefix-held
     slice-aggregate-rank-under
     rank-under-requires
@@ -356,7 +243,6 @@ select-both-spec =
     tries-in-requires
     add-tries
     leaves-out-requires
-    add-held-2
     mul-held
     array-write-held
     mul-items
