@@ -26,7 +26,9 @@ try:
     told = subprocess.run(["rt", "dev", crate], stdout=subprocess.PIPE, stderr=subprocess.STDOUT, text=True)
 finally:
     open(path, "w").write(before)
-refused = [line for line in told.stdout.splitlines() if re.match(r"\S+: error", line)]
+# of a function without a proof file the prover says what is not proved; of any other the first error is its own
+refused = [line for line in told.stdout.splitlines() if re.match(r"note: \S+: it is not proved", line)]
+refused += [line for line in told.stdout.splitlines() if re.match(r"\S+: error", line)]
 if told.returncode == 0 or not refused:
     sys.exit("not refused" if told.returncode == 0 else told.stdout)
 print(refused[0])
