@@ -1,10 +1,10 @@
 /*
  * Measures the engine and plain C on one map, by turns, and compares what they give byte for byte.
  *
- * usage: bench fill MAP ROUNDS | all MAP ROUNDS
+ * usage: bench fill MAP ROUNDS | all MAP ROUNDS | FRAME MAP ROUNDS, where FRAME is an edit
  *
  * A line for each call: its name, the engine's and plain C's nanoseconds, best of all rounds; for the edits also how many places moved in how
- * many edits.
+ * many edits. Of an edit by its frame also the fills before and after it.
  */
 #define _POSIX_C_SOURCE 200809L
 #include "common.h"
@@ -12,7 +12,7 @@
 
 enum { CAUSE = 20 }; /* where in a move its cause stands */
 
-static uint8_t map[MOST], map2[MOST], space[SPACE], space2[SPACE];
+static uint8_t map[MOST], map2[MOST], kept[MOST], space[SPACE], space2[SPACE];
 static uint16_t table[PLACES], table2[PLACES], edited[PLACES];
 static size_t len, places;
 static uint32_t groups;
@@ -103,8 +103,14 @@ static void ceiling_once(struct pair *best, uint32_t drive) {
     keep_least(&best->plain, c - b);
 }
 
-/* One value of a drive changed and set back, again and again: only few places move. After each edit the table has to be a fresh fill, which is
- * timed too, so that edit and fill stand beside each other. */
+/* After an edit the table has to be a fresh fill, which is timed too, so that edit and fill stand beside each other. */
+static void fill_after(struct pair *fill) {
+    memcpy(edited, table, places * sizeof *table);
+    fill_once(fill);
+    expect(memcmp(edited, table, places * sizeof *table) == 0, "edit: a fresh fill");
+}
+
+/* One value of a drive changed and set back, again and again: only few places move. */
 static void edits(const char *name, int rounds, unsigned kind, uint32_t drive, uint32_t changed, uint32_t back, struct pair *fill) {
     struct pair best = {0, 0};
     uint32_t moves = 0;
@@ -112,12 +118,27 @@ static void edits(const char *name, int rounds, unsigned kind, uint32_t drive, u
     for (int i = 0; i < 2 * rounds; i++) {
         snprintf(frame, sizeof frame, "%02x%04x%08x", kind, drive & 0xffff, i % 2 == 0 ? changed : back);
         moves += edit_once(&best, frame);
-        memcpy(edited, table, places * sizeof *table);
-        fill_once(fill);
-        expect(memcmp(edited, table, places * sizeof *table) == 0, "edit: a fresh fill");
+        fill_after(fill);
     }
     print_pair(name, best);
     printf("moves-%s %u %d\n", name, moves, 2 * rounds);
+}
+
+/* One edit, of the same map again and again. */
+static void one_edit(const char *frame, int rounds) {
+    struct pair before = {0, 0}, edit = {0, 0}, after = {0, 0};
+    uint32_t moves = 0;
+    memcpy(kept, map, len);
+    for (int i = 0; i < rounds; i++) {
+        memcpy(map, kept, len);
+        fill_once(&before);
+        moves += edit_once(&edit, frame);
+        fill_after(&after);
+    }
+    print_pair("before", before);
+    print_pair("edit", edit);
+    print_pair("after", after);
+    printf("moves %u %d\n", moves, rounds);
 }
 
 static void take_map(const char *path) {
@@ -132,12 +153,16 @@ static void take_map(const char *path) {
 
 int main(int argc, char **argv) {
     struct pair load = {0, 0}, place = {0, 0}, fill = {0, 0}, ceiling = {0, 0};
-    if (argc != 4 || (strcmp(argv[1], "fill") != 0 && strcmp(argv[1], "all") != 0)) {
-        fprintf(stderr, "usage: bench fill|all MAP ROUNDS\n");
+    if (argc != 4 || (strcmp(argv[1], "fill") != 0 && strcmp(argv[1], "all") != 0 && strlen(argv[1]) != CRUSH_FRAME)) {
+        fprintf(stderr, "usage: bench fill|all|FRAME MAP ROUNDS\n");
         return 2;
     }
     take_map(argv[2]);
     int rounds = atoi(argv[3]);
+    if (strlen(argv[1]) == CRUSH_FRAME) {
+        one_edit(argv[1], rounds);
+        return 0;
+    }
     for (int i = 0; i < rounds; i++)
         fill_once(&fill);
     if (strcmp(argv[1], "fill") == 0) {

@@ -63,6 +63,18 @@ def shelves(groups, count, kind, drives=64):
     return text_of(groups, devices, [(b, 1, kind) for b in range(count)], links, steps)
 
 
+def one_shelf(drives, copies, weight=lambda n: 1):
+    """One bucket of drives, of which the copies are taken."""
+    devices = [(n, weight(n), FULL) for n in range(drives)]
+    steps = [(TAKE, 0, 0, 0), (INDEPENDENT, copies, 0, 0), (EMIT, 0, 0, 0)]
+    return text_of(1024, devices, [(0, 1, STRAW)], [(0, n) for n in range(drives)], steps)
+
+
+def heavy(n):
+    """All but a trace of the weight is drive 0's."""
+    return 65535 if n == 0 else 1
+
+
 def mixed(n):
     """Drives of four sizes, in no order that the hierarchy has."""
     return (2048, 4096, 8192, 16384)[n * 7 % 13 % 4]
@@ -104,6 +116,16 @@ BLOCKS = ("blocks", "4 x 16 x 16, and a copy more anywhere", lambda: nested(1024
 # that its fill is what all but the draws takes
 DRAWS = 4096 * 5
 DRAWN = [("straw", lambda: shelves(4096, 5, STRAW)), ("tree", lambda: shelves(4096, 5, TREE)), ("alone", lambda: shelves(4096, 5, TREE, 1))]
+
+# edits that move many places, or slow the fill down: (name, what is edited, the edit, map)
+EDITED = [
+    ("few", "4 x 16 x 16, a drive gets 16 times its weight", "2200000000ffff", lambda: nested(1024, (4, 16, 16))),
+    ("many", "4 x 4, a drive gets 16 times its weight", "2200000000ffff", lambda: nested(1024, (4, 4))),
+    ("last", "16 drives for 16 places, one dies", "21000000000000", lambda: one_shelf(16, 16)),
+    ("rise", "64 drives of weight 1, one gets 65,535", "2200000000ffff", lambda: one_shelf(64, 16)),
+    ("fall", "the same, the heavy one gets 0", "22000000000000", lambda: one_shelf(64, 16, weight=heavy)),
+    ("trace", "8 x 8 through 3, all but a trace of the weight dies", "21000000000000", lambda: nested(1024, (8, 8), weight=heavy, through=True)),
+]
 
 # how fill's time grows: (what grows, [(its number, map)])
 GROWTH = [

@@ -13,6 +13,7 @@ import sys
 import maps
 
 BUDGETS = {"acceptance": 1.3, "weight": 2.0}  # an edit that moves few places, in fills
+BOTH_BUDGET = 4.0  # any edit, in the fills before and after it together
 TURNS = 5  # how often the draws of each kind are measured, by turns
 
 
@@ -103,6 +104,17 @@ def compared(folder, rounds, libcrush):
     return tables, shares
 
 
+def edited(folder, rounds):
+    """The table of edits that move many places, and how long each takes beside both fills."""
+    rows, both = [["edits beside the fills before and after", "moves", "fills before", "both fills"]], []
+    for name, title, frame, text in maps.EDITED:
+        got = run(folder, ["bench", frame], name, text(), rounds)
+        before, edit, after = (got[word][0] for word in ("before", "edit", "after"))
+        both.append(Ratio(edit / (before + after)))
+        rows.append([title, f"{got['moves'][0] / got['moves'][1]:,.0f}", Ratio(edit / before), both[-1]])
+    return rows, both
+
+
 def drawn(folder, rounds):
     """The table of a draw in a straw bucket and in a tree."""
     turns = [[run(folder, ["bench", "fill"], name, text(), rounds)["fill"] for name, text in maps.DRAWN] for _ in range(TURNS)]
@@ -135,11 +147,13 @@ def main():
     parser.add_argument("--libcrush", action="store_true")
     args = parser.parse_args()
     print(processor())
-    runs, shares = [], []
+    runs, shares, boths = [], [], []
     for _ in range(args.runs):
         tables, share = compared(args.folder, args.rounds, args.libcrush)
-        runs.append([*tables, drawn(args.folder, args.rounds), *grown(args.folder, args.rounds)])
+        many, both = edited(args.folder, args.rounds)
+        runs.append([*tables, many, drawn(args.folder, args.rounds), *grown(args.folder, args.rounds)])
         shares.append(share)
+        boths.append(both)
     print("fill*: plain C that takes the digits of the logarithm without a branch, as the engine does; 21 is acceptance, 22 weight")
     if args.libcrush:
         print("libcrush: its time for all groups / the engine's fill, with 50 tries also of the inner walk, where its own default is 1;")
@@ -154,6 +168,9 @@ def main():
     for (call, budget), cells in zip(BUDGETS.items(), zip(*least)):
         over += [call] * (max(cells) > budget)
         print(f"an edit of {call} takes at most {max(cells)} fills; its budget is {budget}")
+    most = max(map(min, zip(*boths)))
+    over += ["any edit"] * (most > BOTH_BUDGET)
+    print(f"any edit takes at most {most} times the fills before and after it together; its budget is {BOTH_BUDGET}")
     print(f"all results equal; over budget: {', '.join(over) or 'none'}")
     return 1 if over else 0
 

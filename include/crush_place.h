@@ -23,32 +23,44 @@
  *   Stack     What a call takes grows with the levels of the map, of which there are at most 255. CRUSH_PLACE_STACK and CRUSH_STACK bytes are
  *             enough for every map: that is measured, with the deepest map, and not proved.
  *   Time      Load's questions take a time that grows with the map's bytes. To it a list adds the placing of one group, and a table and a
- *             ceiling that of every group. As measured, an edit of an acceptance takes little longer than filling the table, and one of a
- *             weight less than filling it twice.
+ *             ceiling that of every group. Where few groups move, an edit of an acceptance takes little longer than filling the table, and one
+ *             of a weight less than filling it twice. Where many do, an edit takes up to four times as long as filling both tables, the one
+ *             before it and the one behind it; and that one may take far longer to fill. All of this is measured.
  *
- * Load's questions, in the order in which they are put, each to the whole map before the next:
+ * Load's questions, in the order in which they are put, which is not that of their numbers, each to the whole map before the next:
  *
  *    1  Has the map 1 to 65,536 bytes, the last a newline, all others lower-case hexadecimal digits or newlines?
- *    2  Is each line of kind 00 to 05, at that kind's length? (An 02 has 18 digits; behind its type stand the bucket's kind, two, and its
- *       weight, eight.)
+ *    2  Is each line of kind 00 to 05, at that kind's length? (An 02 has 18 digits; behind its type stand the bucket's kind, two, and its weight,
+ *       eight.)
  *    3  Is there one 00 first, then the 01s, 02s, 03s and 04s, and one 05 last?
  *    4  Does the 05 tell the number of lines before it?
  *    5  Is each field in its range, and 0 where unused? (A bucket's kind is 01, straw, or 02, tree.)
- *    6  Do the devices, the buckets and the (bucket, child) pairs strictly rise?
+ *    6  Do the drives, the buckets and the (bucket, child) pairs strictly rise?
  *    7  Is every bucket and child of an 03, and every bucket taken, present?
  *    8  Is no item a child twice?
  *    9  Is each child's type below its bucket's?
- *   22  Has each bucket a child? (It is put here, directly after 9. The child may weigh 0.)
+ *   22  Has each bucket a child? (The child may weigh 0.)
  *   10  Has each bucket at most 64 children?
- *   11  Has the rule 1 to 16 steps, in blocks of take, selects and emit, with types that strictly fall from the bucket taken to 0, or to a
- *       step 5 (select through), behind which its block has no further select?
- *   21  Has no step 5 type 0? (It is put here, right after 11.)
+ *   11  Has the rule 1 to 16 steps, in blocks of take, selects and emit, with types that strictly fall from the bucket taken to 0, or to a step 5
+ *       (select through), behind which its block has no further select?
+ *   21  Has no step 5 type 0?
  *   12  Is the list at most 16 places wide in a block and 32 in all?
- *   23  Is the weight written for each bucket the sum of its children's weights? (It is put here, after 12.)
+ *   23  Is the weight written for each bucket the sum of its children's weights?
  *   13  Do the drives weigh at most 67,107,840 in all? (No map that comes so far weighs more.)
  *
- * Some calls answer with these numbers, others with 14 for all of them; crush_load then says which it was. The questions behind load's stand with
- * each call. G is the number of groups of the map, W the width of its lists.
+ * Some calls answer with these numbers, others with 14 for all of them; crush_load then says which it was.
+ *
+ * The calls' own questions, in the order in which they are put. Each call says which of them it puts, and what 16 wants room for:
+ *
+ *   14  Is the map one that load takes?
+ *   15  Is the group below G?
+ *   16  Has the space or table lent the room that the call needs?
+ *   17  Has the rule no first-n select?
+ *   18  Is the frame an edit, its drive one of the map's, and its value in its range?
+ *   19  Is the table what fill gives for the map, place by place?
+ *   20  Has the space room for the moves?
+ *
+ * G is the number of groups of the map, W the width of its lists.
  */
 #ifndef CRUSH_PLACE_H
 #define CRUSH_PLACE_H
@@ -115,12 +127,7 @@ struct crush_placing {
  *   out      space for the list.
  *   out_len  how many bytes of space there are. CRUSH_PLACE_MOST are enough for every map; 2 * W are needed and written.
  *
- * The questions are load's, with their numbers, and then:
- *
- *   15  Is the group below G?
- *   16  Has the space room for W places?
- *
- * 14 is never answered here.
+ * The questions, in this order: load's, with their numbers, 15, and 16 (has the space room for W places?). 14 is never answered here.
  */
 struct crush_placing crush_place(const uint8_t *map, size_t map_len, uint32_t group, uint8_t *out, size_t out_len);
 
@@ -131,9 +138,9 @@ struct crush_day {
 };
 
 /*
- * The group that holds the records of day `day` of show `show` by this map, for which crush_place is then asked. The question:
+ * The group that holds the records of day `day` of show `show` by this map, for which crush_place is then asked.
  *
- *   14  Is the map one that crush_load takes?
+ * The question: 14.
  */
 struct crush_day crush_day_group(const uint8_t *map, size_t map_len, uint32_t show, uint32_t day);
 
@@ -148,11 +155,8 @@ struct crush_drives {
 /*
  * Both in one call, so that load's questions are put once: the group of a show's day, and its list into `out` as crush_place writes it.
  *
- * The questions are load's, with their numbers, and then:
- *
- *   16  Has the space room for W places?
- *
- * 14 and 15 are never answered here: a day's group is always one of the map's.
+ * The questions, in this order: load's, with their numbers, and 16 (has the space room for W places?). 14 and 15 are never answered here: a day's
+ * group is always one of the map's.
  */
 struct crush_drives crush_day_drives(const uint8_t *map, size_t map_len, uint32_t show, uint32_t day, uint8_t *out, size_t out_len);
 
@@ -169,10 +173,7 @@ struct crush_filled {
  *   table      space for it.
  *   table_len  how many places (not bytes) of space there are. G * W are needed and written; CRUSH_TABLE_MOST are enough for every map.
  *
- * The questions:
- *
- *   14  Is the map one that crush_load takes?
- *   16  Has the space room for the W places of each group?
+ * The questions, in this order: 14, and 16 (has the space room for the W places of each group?).
  */
 struct crush_filled crush_fill(const uint8_t *map, size_t map_len, uint16_t *table, size_t table_len);
 
@@ -206,14 +207,7 @@ struct crush_edited {
  *   03  In only one of the two runs an earlier place of the list holds the drive, or an earlier place of the same select the bucket; what
  *       changed that place is 01, 02 or 03 again, and at last 01 or 02.
  *
- * The questions:
- *
- *   14  Is the map one that crush_load takes?
- *   16  Has the table the W places of each group?
- *   17  Has the map no first-n select?
- *   18  Is the frame an edit, the drive one of the map's, and the value in its range?
- *   19  Is the table what the map gives, place by place?
- *   20  Has the space room for the moves?
+ * The questions, in this order: 14, 16 (has the table the W places of each group?), 17, 18, 19, and 20 (CRUSH_MOVE bytes for each move).
  */
 struct crush_edited crush_edit(uint8_t *map, size_t map_len, uint16_t *table, size_t table_len, const uint8_t *frame, size_t frame_len,
                                uint8_t *moves, size_t moves_len);
@@ -234,13 +228,8 @@ struct crush_limit {
  *   table_len  how many places (not bytes) it has. What lies beyond the places of the last group is not looked at.
  *   device     the number of the drive.
  *
- * The questions are those that an edit of the drive is asked, but for its value and its space for moves:
- *
- *   14  Is the map one that crush_load takes?
- *   16  Has the table the W places of each group?
- *   17  Has the map no first-n select?
- *   18  Is the drive one of the map's?
- *   19  Is the table what the map gives, place by place?
+ * The questions are those that an edit of the drive is asked, but for its value and its space for moves, in this order: 14, 16 (has the table the W
+ * places of each group?), 17, 18 (of the drive alone: is it one of the map's?), and 19.
  */
 struct crush_limit crush_ceiling(const uint8_t *map, size_t map_len, const uint16_t *table, size_t table_len, uint32_t device);
 
@@ -256,10 +245,7 @@ struct crush_written {
  *   out      space for the frames.
  *   out_len  how many bytes of space there are. As many as the map has are needed; CRUSH_MAP_MOST are enough for every map.
  *
- * The questions:
- *
- *   14  Is the map one that crush_load takes?
- *   16  Has the space room for the map's bytes?
+ * The questions, in this order: 14, and 16 (has the space room for the map's bytes?).
  */
 struct crush_written crush_write(const uint8_t *map, size_t map_len, uint8_t *out, size_t out_len);
 
@@ -271,6 +257,7 @@ static inline const char *crush_meaning(uint32_t number) {
     switch (number) {
     case 0:
         return "all is well";
+    /* made of docs/questions.tsv by tools/questions.py: begin */
     case 1:
         return "the map is empty, longer than 65,536 bytes, cut off, or has a byte that is no lower-case digit";
     case 2:
@@ -278,7 +265,7 @@ static inline const char *crush_meaning(uint32_t number) {
     case 3:
         return "the kinds of lines are out of order, or 00 or 05 is missing or there twice";
     case 4:
-        return "05 does not tell the number of lines before it";
+        return "the 05 line does not tell the number of lines before it";
     case 5:
         return "a field is out of its range";
     case 6:
@@ -298,13 +285,13 @@ static inline const char *crush_meaning(uint32_t number) {
     case 13:
         return "the drives weigh more than 67,107,840 in all";
     case 14:
-        return "the map is not as load or edit left it";
+        return "the map is not one that load takes";
     case 15:
         return "the map has no such group";
     case 16:
-        return "the space lent is too small";
+        return "the space or the table lent is too small";
     case 17:
-        return "the rule has a first-n select";
+        return "the rule has a first-n select, and such a map takes no edit";
     case 18:
         return "the frame is no edit, the drive is not in the map, or the value is out of its range";
     case 19:
@@ -317,6 +304,7 @@ static inline const char *crush_meaning(uint32_t number) {
         return "a bucket has no child";
     case 23:
         return "the weight written for a bucket is not the sum of its children's";
+    /* made of docs/questions.tsv by tools/questions.py: end */
     default:
         return "no number that a call answers";
     }

@@ -42,35 +42,79 @@ FIELDS = {
 }
 LENGTHS = {kind: 2 + sum(digits for _, digits in fields) for kind, fields in FIELDS.items()}
 
+# made of docs/questions.tsv by tools/questions.py: begin
 # what is wrong by each number, and what to do
 REFUSALS = {
     1: ("the map is empty, longer than 65,536 bytes, cut off, or has a byte that is no lower-case digit",
         "copy the whole file again; no blanks, no capitals, no byte 13"),
-    2: ("a line is of no kind 00 to 05, or not of its kind's length", "mend that line"),
-    3: ("the kinds of lines are out of order, or 00 or 05 is missing or there twice", "put the lines in order"),
-    4: ("the 05 line does not tell the number of lines before it", "lines were lost or added: find them, then put the number right"),
-    5: ("a field is out of its range", "mend the field"),
-    6: ("drives, buckets or children do not strictly rise", "sort them; take out what is there twice"),
-    7: ("a bucket or a child is named that the map does not have", "add its line, or take the name out"),
-    8: ("an item is a child twice", "take it out of one bucket"),
-    9: ("a child's type is not below its bucket's", "mend the types"),
-    10: ("a bucket has more than 64 children", "put a level of buckets between"),
+    2: ("a line is of no kind 00 to 05, or not of its kind's length",
+        "mend that line; an 02 from before change 6 lacks the eight digits of its weight, and one from before change 4, which brought trees, "
+        "the two of its kind ahead of them too: 01 makes it the straw that it was"),
+    3: ("the kinds of lines are out of order, or 00 or 05 is missing or there twice",
+        "put the lines in order"),
+    4: ("the 05 line does not tell the number of lines before it",
+        "lines were lost or added: find them, then put the number right"),
+    5: ("a field is out of its range",
+        "mend the field"),
+    6: ("drives, buckets or children do not strictly rise",
+        "sort them; take out what is there twice"),
+    7: ("a bucket or a child is named that the map does not have",
+        "add its line, or take the name out"),
+    8: ("an item is a child twice",
+        "take it out of one bucket"),
+    9: ("a child's type is not below its bucket's",
+        "mend the types"),
+    10: ("a bucket has more than 64 children",
+         "put a level of buckets between"),
     11: ("the rule is not 1 to 16 steps in blocks of take, selects and emit, with types that fall to 0 or end at a step 5",
          "mend the rule; a step 5 is the last select of its block"),
-    12: ("more than 16 places in a block, or 32 in all", "select fewer"),
-    13: ("the drives weigh more than 67,107,840 in all", "no map comes so far: report it"),
-    14: ("the map is not as load or edit left it", "load the map again"),
-    15: ("the map has no such group", "ask for a group below its number"),
-    16: ("the space lent is too small; of program fill: groups x W is above 32,768", "take program operate, or fewer groups or copies"),
-    17: ("the rule has a first-n select, and such a map takes no edit", "change the map's file, and compare the tables"),
-    18: ("the line is no edit, the drive is not in the map, or the value is out of range", "mend the line"),
-    19: ("the table is not what fill gives", "fill it again"),
-    20: ("the edit makes more than 2,849 moves", "edit the weight in smaller steps, or change the map's file and compare the tables"),
-    21: ("a step 5 has type 0", "give it the type of the buckets to go through, or make it a step 3"),
-    22: ("a bucket has no child", "put in what it is to hold, at weight 0 if it is not there yet, or take the bucket out"),
+    12: ("the list is wider than 16 places in a block, or 32 in all",
+         "select fewer"),
+    13: ("the drives weigh more than 67,107,840 in all",
+         "no map comes so far: report it"),
+    14: ("the map is not one that load takes",
+         "only in calls from C: load the map again, which tells the question answered no"),
+    15: ("the map has no such group",
+         "only in calls from C: ask for a group below G, the number of the map's groups"),
+    16: ("the space or the table lent is too small",
+         "of program fill, groups x W is above 32,768: take program operate, or fewer groups or copies; in calls from C: lend more"),
+    17: ("the rule has a first-n select, and such a map takes no edit",
+         "change the map's file, and compare the tables before and after"),
+    18: ("the frame is no edit, the drive is not in the map, or the value is out of its range",
+         "mend the line; program operate takes the lines 2c and 2d too"),
+    19: ("the table is not what fill gives",
+         "only in calls from C, of edit and ceiling: fill it again"),
+    20: ("the edit makes more moves than the space lent has room for",
+         "the programs have room for 2,849: edit in smaller steps, or change the map's file and compare the tables before and after"),
+    21: ("a step 5 has type 0",
+         "give it the type of the buckets to go through, or make it a step 3"),
+    22: ("a bucket has no child",
+         "put in what it is to hold, at weight 0 if it is not there yet, or take the bucket out"),
     23: ("the weight written for a bucket is not the sum of its children's",
-         "write the sums; an edit of a drive's weight brings them up to date by itself"),
+         "write the sums, from the lowest buckets on; an edit of a drive's weight brings them up to date by itself"),
 }
+
+# load's questions in the engine's order, without the notes behind them
+QUESTIONS = {
+    1: "Has the map 1 to 65,536 bytes, the last a newline, all others lower-case hexadecimal digits or newlines?",
+    2: "Is each line of kind 00 to 05, at that kind's length?",
+    3: "Is there one 00 first, then the 01s, 02s, 03s and 04s, and one 05 last?",
+    4: "Does the 05 tell the number of lines before it?",
+    5: "Is each field in its range, and 0 where unused?",
+    6: "Do the drives, the buckets and the (bucket, child) pairs strictly rise?",
+    7: "Is every bucket and child of an 03, and every bucket taken, present?",
+    8: "Is no item a child twice?",
+    9: "Is each child's type below its bucket's?",
+    22: "Has each bucket a child?",
+    10: "Has each bucket at most 64 children?",
+    11: "Has the rule 1 to 16 steps, in blocks of take, selects and emit, with types that strictly fall from the bucket taken to 0, or to a "
+        "step 5 (select through), behind which its block has no further select?",
+    21: "Has no step 5 type 0?",
+    12: "Is the list at most 16 places wide in a block and 32 in all?",
+    23: "Is the weight written for each bucket the sum of its children's weights?",
+    13: "Do the drives weigh at most 67,107,840 in all?",
+}
+# made of docs/questions.tsv by tools/questions.py: end
 
 # a cause in a few words for each move, and in whole words once
 CAUSES = {
@@ -515,31 +559,15 @@ def ask_weights(given):
     return faults
 
 
-# in the engine's order. 13, the weight of all drives, is left out: it is never answered no, since 1,024 drives of 65,535 weigh no more
-QUESTIONS = (
-    (1, ask_bytes, "Has the map 1 to 65,536 bytes, the last a newline, all others lower-case hexadecimal digits or newlines?"),
-    (2, ask_lengths, "Is each line of kind 00 to 05, at that kind's length?"),
-    (3, ask_order, "Is there one 00 first, then the 01s, 02s, 03s and 04s, and one 05 last?"),
-    (4, ask_count, "Does the 05 tell the number of lines before it?"),
-    (5, ask_ranges, "Is each field in its range, and 0 where unused?"),
-    (6, ask_rising, "Do the drives, the buckets and the (bucket, child) pairs strictly rise?"),
-    (7, ask_present, "Is every bucket and child of an 03, and every bucket taken, present?"),
-    (8, ask_twice, "Is no item a child twice?"),
-    (9, ask_types, "Is each child's type below its bucket's?"),
-    (22, ask_filled, "Has each bucket a child?"),
-    (10, ask_children, "Has each bucket at most 64 children?"),
-    (11, ask_rule, "Has the rule 1 to 16 steps, in blocks of take, selects and emit, with types that strictly fall from the bucket taken to 0, or to "
-                   "a step 5, behind which its block has no further select?"),
-    (21, ask_through, "Has no step 5 type 0?"),
-    (12, ask_width, "Is the list at most 16 places wide in a block and 32 in all?"),
-    (23, ask_weights, "Is the weight written for each bucket the sum of its children's weights?"),
-)
+# 13, the weight of all drives, is left out: it is never answered no, since 1,024 drives of 65,535 weigh no more
+ASKS = {1: ask_bytes, 2: ask_lengths, 3: ask_order, 4: ask_count, 5: ask_ranges, 6: ask_rising, 7: ask_present, 8: ask_twice, 9: ask_types,
+        10: ask_children, 11: ask_rule, 12: ask_width, 21: ask_through, 22: ask_filled, 23: ask_weights}
 
 
 def refusal_of(given):
     """The first question answered no: its number, itself in words, and the faults; or 0 and none."""
-    for number, ask, question in QUESTIONS:
-        faults = ask(given)
+    for number, question in QUESTIONS.items():
+        faults = ASKS[number](given) if number in ASKS else []
         if faults:
             return number, question, faults
     return 0, None, []

@@ -119,7 +119,8 @@ group 147 (00000093), place 2: from drive 0020 in 0000/0001/0012 to drive 0026 i
 group 278 (00000116), place 2: from drive 0020 in 0000/0001/0012 to drive 0029 in 0000/0001/0012; cause 01, the edited drive's own acceptance
 """
 ARCHIVE_END = """\
-line 1035: refused with 18 (1f12): the line is no edit, the drive is not in the map, or the value is out of range; mend the line
+line 1035: refused with 18 (1f12): the frame is no edit, the drive is not in the map, or the value is out of its range; mend the line; \
+program operate takes the lines 2c and 2d too
 10 moves in 10 groups, 10 of cause 01; 1 refusal
   cause 01: the edited drive passes its own acceptance test in only one of the two runs, before and after the edit
 """
@@ -144,7 +145,7 @@ line 227: 0200010201000f2300
     bucket 0001 is written with 992000, and its children weigh 1000000: the line should be 0200010201000f4240
 line 232: 020012010100017700
     bucket 0012 is written with 96000, and its children weigh 104000: the line should be 020012010100019640
-What to do: write the sums; an edit of a drive's weight brings them up to date by itself.
+What to do: write the sums, from the lowest buckets on; an edit of a drive's weight brings them up to date by itself.
 """
 
 
@@ -499,7 +500,7 @@ def test_why(rng):
     large = Draft(rng)
     large.groups = 65536
     check_why(large.bytes(), answers)
-    few = {number: answers[number] for number, *_ in show.QUESTIONS if answers[number] < 8}
+    few = {number: answers[number] for number in show.ASKS if answers[number] < 8}
     check("each question is answered no often enough", few, {})
     return answers
 
