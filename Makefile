@@ -30,3 +30,5 @@ install: all
 	packaging/install $(PREFIX)
 
 .PHONY: all demo test install
+# `rt` shares its work among the processors by itself
+.NOTPARALLEL:

@@ -27,6 +27,10 @@ def answers():
     return [int(row[at:at + 4], 16) for at in range(0, len(row), 4)], [(int(line[12:16], 16), int(line[16:20], 16)) for line in moves]
 
 
+def square(x, y, colour):
+    return f'<rect x="{x}" y="{y}" width="{SIDE}" height="{SIDE}" fill="{colour}" stroke="#8a94a0"/>'
+
+
 def main():
     given = show.Map(MAP.read_bytes())
     labels = show.Labels(show.read_names(NAMES, given), given)
@@ -46,23 +50,26 @@ def main():
             for slot, drive in enumerate(given.children[cabinet]):
                 x = left + LABEL + slot * (SIDE + GAP)
                 at[drive] = x + SIDE / 2, y + SIDE / 2
-                colour = DIES if drive in goes else LIES if drive in lies else GOES if drive in goes.values() else EMPTY if given.is_dead(drive) else PLAIN
-                parts.append(f'<rect x="{x}" y="{y}" width="{SIDE}" height="{SIDE}" fill="{colour}" stroke="#8a94a0"/>')
+                colour = EMPTY if given.is_dead(drive) else PLAIN
+                colour = DIES if drive in goes else LIES if drive in lies else GOES if drive in goes.values() else colour
+                parts.append(square(x, y, colour))
     for old, new in moves:
         (x, y), (to, _) = at[old], at[new]
-        parts.append(f'<path d="M {x} {y + 8} Q {(x + to) / 2} {y + 30} {to} {y + 9}" fill="none" stroke="{GOES}" stroke-width="2" marker-end="url(#tip)"/>')
+        arrow = f"M {x} {y + 8} Q {(x + to) / 2} {y + 30} {to} {y + 9}"
+        parts.append(f'<path d="{arrow}" fill="none" stroke="{GOES}" stroke-width="2" marker-end="url(#tip)"/>')
     words = [(LIES, f"a copy of group {GROUP}"), (DIES, f"its copy on drive {DEAD:04x}, which dies"),
              (GOES, "the drive that it goes to: the only place of the group that moves"), (EMPTY, "dead before")]
     x = 16
     for colour, told in words:
-        parts += [f'<rect x="{x}" y="48" width="{SIDE}" height="{SIDE}" fill="{colour}" stroke="#8a94a0"/>', show.words_at(x + 20, 60, told, size=12)]
+        parts += [square(x, 48, colour), show.words_at(x + 20, 60, told, size=12)]
         x += 60 + 6.4 * len(told)
     title = f"{len(given.drives)} drives at three sites, {given.groups:,} groups, a copy of each at every site: no directory, the map alone says where"
     parts.append(show.words_at(16, 28, title, size=16))
     wide, high = 16 + WIDE * len(sites), TOP + 40 + ROW * max(len(given.children[site]) for site in sites)
-    tip = f'<defs><marker id="tip" markerWidth="8" markerHeight="8" refX="5" refY="4" orient="auto"><path d="M 0 1 L 6 4 L 0 7 z" fill="{GOES}"/></marker></defs>'
-    print(f'<svg xmlns="http://www.w3.org/2000/svg" width="{wide}" height="{high}" viewBox="0 0 {wide} {high}" font-family="sans-serif" fill="#222222">')
-    print("\n".join([tip, f'<rect width="{wide}" height="{high}" fill="#ffffff"/>', *parts, "</svg>"]))
+    tip = f'<marker id="tip" markerWidth="8" markerHeight="8" refX="5" refY="4" orient="auto"><path d="M 0 1 L 6 4 L 0 7 z" fill="{GOES}"/></marker>'
+    print(f'<svg xmlns="http://www.w3.org/2000/svg" width="{wide}" height="{high}" viewBox="0 0 {wide} {high}" '
+          'font-family="sans-serif" fill="#222222">')
+    print("\n".join([f"<defs>{tip}</defs>", f'<rect width="{wide}" height="{high}" fill="#ffffff"/>', *parts, "</svg>"]))
 
 
 if __name__ == "__main__":

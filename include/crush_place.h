@@ -52,13 +52,13 @@
  *
  * The calls' own questions, in the order in which they are put. Each call says which of them it puts, and what 16 wants room for:
  *
- *   14  Is the map one that load takes?
+ *   14  Is the map as load or edit leaves it, one that load takes?
  *   15  Is the group below G?
- *   16  Has the space or table lent the room that the call needs?
+ *   16  Has the space or table lent room for the W places, the G x W places or the map's bytes that the call needs?
  *   17  Has the rule no first-n select?
  *   18  Is the frame an edit, its drive one of the map's, and its value in its range?
  *   19  Is the table what fill gives for the map, place by place?
- *   20  Has the space room for the moves?
+ *   20  Has the space room for the moves, 23 bytes each?
  *
  * G is the number of groups of the map, W the width of its lists.
  */
@@ -285,7 +285,7 @@ static inline const char *crush_meaning(uint32_t number) {
     case 13:
         return "the drives weigh more than 67,107,840 in all";
     case 14:
-        return "the map is not one that load takes";
+        return "the map is not as load or edit leaves it: load would not take it";
     case 15:
         return "the map has no such group";
     case 16:

@@ -1,5 +1,6 @@
 #!/usr/bin/env python3
-"""Every name in backticks on the pages for reviewers and maintainers, looked up in the sources; and DEMANDS.md's quotations, compared with them.
+"""Every name in backticks on the pages for reviewers and maintainers, looked up in the sources; DEMANDS.md's quotations, compared with them; and
+ARCHITECTURE.md's drawing, compared with crates.txt: it has each crate, and no line that is not a need.
 
 Usage: names.py (from any folder). Looked up are, as docs/ARCHITECTURE.md writes them: `crate`, `crate/Module.name`, `Module.name`, `crate/edit`,
 `crate::module::function`, files and folders, and names alone. In backticks may also stand frames, options and expressions: of an expression each
@@ -11,7 +12,7 @@ import sys
 
 ROOT = pathlib.Path(__file__).resolve().parent.parent
 PAGES = [ROOT / "docs" / f"{name}.md" for name in ("DEMANDS", "TRACE", "DECISIONS", "ARCHITECTURE", "CONTRIBUTING", "GATE")]
-QUOTING = ROOT / "docs" / "DEMANDS.md"
+QUOTING, DRAWING = ROOT / "docs" / "DEMANDS.md", ROOT / "docs" / "ARCHITECTURE.md"
 WORD = r"[A-Za-z_][\w′'-]*"
 # of antt: what has a type or is a record; of Rattle: what is declared, and fields and cases
 ANTT = re.compile(rf"^ *(?:(?:pub|abbrev|unfoldable|record|data|use) )*({WORD})(?: [({{].*)? :", re.MULTILINE)
@@ -22,16 +23,21 @@ COMMENT = re.compile(r"(?:--|//).*")
 NO_NAMES = {"nanosleep", "libc::read", "sched_yield", "crush.h", "libcrush_place.a", "Need-", "Need-..", "tie.close", "guides", "logic=proved"}
 
 
+def files():
+    """Every file but what was made."""
+    for top in sorted(ROOT.iterdir()):
+        if top.name not in (".git", "target"):
+            yield from [top] if top.is_file() else (path for path in sorted(top.rglob("*")) if path.is_file())
+
+
 class Sources:
     def __init__(self):
-        lines = (ROOT / "crates.txt").read_text().splitlines()
-        self.crates = {line.split(":")[0] for line in lines if ":" in line and not line.startswith("#")}
+        lines = [line.split("#")[0] for line in (ROOT / "crates.txt").read_text().splitlines()]
+        self.crates = {line.split(":")[0]: line.split(":")[1].split() for line in lines if ":" in line}
         self.texts, self.modules, self.words, self.files = {}, collections.defaultdict(list), set(), []
         self.declared = set(self.crates)
-        for path in sorted(ROOT.rglob("*")):
+        for path in files():
             place = path.relative_to(ROOT)
-            if place.parts[0] in (".git", "target") or path.is_dir():
-                continue
             self.files.append(str(place))
             self.declared |= {path.stem, *place.parts[:-1]}
             if path.suffix in (".antt", ".rt"):
@@ -54,8 +60,9 @@ class Sources:
         """Whether a name stands in the code of a crate: behind the crate's own name a module, or a type with its function."""
         crate, *inside = path
         if crate in self.crates:
-            files = [place for place in self.texts if place.parts[:3] == ("crates", crate, "src") and (not inside or place.stem in (inside[-1], "lib"))]
-            return any(name in self.names(place) or name == place.stem for place in files)
+            own = [place for place in self.texts if place.parts[:3] == ("crates", crate, "src")]
+            near = [place for place in own if not inside or place.stem in (inside[-1], "lib")]
+            return any(name in self.names(place) or name == place.stem for place in near)
         return crate in self.declared and name in self.declared
 
     def has(self, given):
@@ -99,6 +106,15 @@ def statements(text):
             yield plain(statement).strip()
 
 
+def drawn(crates):
+    """What is wrong in the drawing of the crates."""
+    lines = re.findall(rf"^ +({WORD})(?: (-->|-\.->) ({WORD}))?$", re.search(r"^```mermaid\n(.*?)^```", DRAWING.read_text(), re.M | re.S)[1], re.M)
+    there = {name for crate, _, other in lines for name in (crate, other)} - {"", "end"}
+    yield from (f"drawn, and no crate: {name}" for name in sorted(there - set(crates)))
+    yield from (f"a crate, and not drawn: {name}" for name in sorted(set(crates) - there))
+    yield from (f"drawn, and no need: {crate} to {other}" for crate, line, other in lines if line and other not in crates.get(crate, ()))
+
+
 def main():
     sources, looked, wrong = Sources(), 0, []
     for page in PAGES:
@@ -114,6 +130,7 @@ def main():
         quoted += 1
         if not any(statement in text for text in whole):
             wrong.append(f"{QUOTING.relative_to(ROOT)}: quoted, and not in the sources: {statement}")
+    wrong += [f"{DRAWING.relative_to(ROOT)}: {what}" for what in drawn(sources.crates)]
     for line in wrong:
         print(line)
     print(f"names: {looked} looked up on {len(PAGES)} pages, {quoted} statements compared, {len(wrong)} wrong")

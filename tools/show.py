@@ -72,7 +72,7 @@ REFUSALS = {
          "select fewer"),
     13: ("the drives weigh more than 67,107,840 in all",
          "no map comes so far: report it"),
-    14: ("the map is not one that load takes",
+    14: ("the map is not as load or edit leaves it: load would not take it",
          "only in calls from C: load the map again, which tells the question answered no"),
     15: ("the map has no such group",
          "only in calls from C: ask for a group below G, the number of the map's groups"),
