@@ -78,16 +78,20 @@ module _ (run : ℕ → Run) (appends : (k : ℕ) → (more : List Place) × (ru
       )
 
 module _ (v : View) (x : ℕ) (actions : List Action) where
-  -- what the first k steps have emitted stands at the front of what j steps more have
-  pub list-grows : (k j : ℕ) → (more : List Place) × (runTo v x actions (j + k) .list ≡ runTo v x actions k .list ++ more)
+  -- a step appends some places, or none
+  pub list-more : (k : ℕ) → (more : List Place) × (runTo v x actions (suc k) .list ≡ runTo v x actions k .list ++ more)
   unfolding runTo act selected
-  list-grows = grows (runTo v x actions) (λ k. go (runTo v x actions k) (getD actions k Idle))
+  list-more k = go (runTo v x actions k) (getD actions k Idle)
     where
       go : (s : Run) (a : Action) → (more : List Place) × (act v x s a .list ≡ s .list ++ more)
       go s (Take b) = ([], sym (append-nil (s .list)))
       go s (Select mode n t) = ([], sym (append-nil (s .list)))
       go s Emit = (s .working, refl)
       go s Idle = ([], sym (append-nil (s .list)))
+
+  -- so what the first k steps have emitted stands at the front of what j steps more have
+  pub list-grows : (k j : ℕ) → (more : List Place) × (runTo v x actions (j + k) .list ≡ runTo v x actions k .list ++ more)
+  list-grows = grows (runTo v x actions) list-more
 
   -- so it does where the blocks are apart
   apart-grows : (k j : ℕ) → (more : List Place) × (runApart v x actions (j + k) .list ≡ runApart v x actions k .list ++ more)

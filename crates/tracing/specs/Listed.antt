@@ -17,12 +17,14 @@ use Rattle.definitions.specs.declared.Standing.{Standing}
 use Rattle.definitions.specs.declared.Standing.the-variants.{Outside}
 use Rattle.definitions.specs.Lists.{sum, joined}
 use Rattle.definitions.specs.Map.{Map, actionsOf}
+use Rattle.definitions.specs.View.{viewOf}
 use Rattle.definitions.specs.Select.{Place, entriesOf, nowhere}
 use Rattle.definitions.specs.Rule.{Run, taken, selected, act, runTo, widthsFrom, widths, widthOf, padded, Placed, placedBy, placedOf}
 use Rattle.definitions.specs.Table.{runsTo, runsOf, rowIn, tableIn, tableOf}
 use Rattle.definitions.specs.Load.{standing}
 use Rattle.definitions.specs.Calls.{notFirstN, independent}
 use Rattle.laws.specs.Lists.{getD-mapped}
+use Rattle.laws.specs.FirstBlock.{list-more}
 use Rattle.laws.specs.Loadable.{Loadable, in-blocks}
 use Rattle.laws.specs.Blocks.{InOrder, takes, selects, emits, length-actions, step-inside, step-in-order}
 use Rattle.tracing.specs.Runs.{leaves, stepAt, workingAt, listAt, placeAt, run-step, working-take, working-stays, step-count, independent-at, steps-same, count-same}
@@ -77,14 +79,6 @@ module _ (m : Map) (x : ℕ) where
           (l, j - length (listAt m x l), omega arith, record { emits = e; inside = omega arith; place = omega arith })
       go (inr f) g rest = later rest (omega (arith, ap length (list-stays m x l (stepAt m l) refl f)))
 
-  -- a step appends some places, or none
-  list-more : (k : ℕ) → (ps : List Place) × (listAt m x (suc k) ≡ listAt m x k ++ ps)
-  list-more k = go (emits-or (stepAt m k))
-    where
-      go : (stepAt m k ≡ Emit) ⊎ (stepAt m k ≡ Emit → ⊥) → (ps : List Place) × (listAt m x (suc k) ≡ listAt m x k ++ ps)
-      go (inl e) = (workingAt m x k, list-emit m x k e)
-      go (inr f) = ([], list-stays m x k (stepAt m k) refl f ∙ sym (append-nil (listAt m x k)))
-
   -- place j of the list after l steps is place p of the working list after k
   abbrev pub Stands : ℕ → ℕ → ℕ → ℕ → Type 0
   Stands l j k p = (j < length (listAt m x l)) × (getD (listAt m x l) j nowhere ≡ placeAt m x k p)
@@ -98,8 +92,9 @@ module _ (m : Map) (x : ℕ) where
       )
 
   stands-on : (l j k p : ℕ) → Stands l j k p → Stands (suc l) j k p
+  unfolding listAt
   stands-on l j k p (h, e) =
-      let (ps, q) = list-more l in (
+      let (ps, q) = list-more (viewOf m) x (actionsOf m) l in (
         omega (arith, ap length q, length-append (listAt m x l) ps),
         ap (λ (qs : List Place). getD qs j nowhere) q ∙ List·getD-append (listAt m x l) ps nowhere j h ∙ e,
       )
