@@ -10,7 +10,7 @@
 #include "common.h"
 
 /* The calls of the build before, renamed. */
-struct crush_sizes before_load(const uint8_t *, size_t);
+struct crush_sizes before_sizes_of(const uint8_t *, size_t);
 struct crush_filled before_fill(const uint8_t *, size_t, uint16_t *, size_t);
 struct crush_edited before_edit(uint8_t *, size_t, uint16_t *, size_t, const uint8_t *, size_t, uint8_t *, size_t);
 
@@ -30,7 +30,7 @@ typedef uint32_t call(int build, const char *frame);
 
 static uint32_t load(int build, const char *frame) {
     (void)frame;
-    return (build == 0 ? before_load : crush_load)(map[build], len).number;
+    return (build == 0 ? before_sizes_of : crush_sizes_of)(map[build], len).number;
 }
 
 static uint32_t fill(int build, const char *frame) {

@@ -115,7 +115,7 @@ int main(int argc, char **argv) {
         return 2;
     }
     size_t len = read_map(argv[1], text);
-    if (crush_load(text, len).number != 0)
+    if (crush_sizes_of(text, len).number != 0)
         fail("the map is refused");
     struct crush_map *map = crush_create();
     const uint8_t *line;

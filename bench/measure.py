@@ -3,7 +3,7 @@
 
 usage: measure.py DIR ROUNDS [--runs N] [--libcrush]: DIR holds the programs and takes the maps. Of several runs each cell is a range, the least
 and the greatest; with --libcrush the ratios of libcrush to the engine, by the program `libcrush`, are a column too. The exit status is not 0 where
-results differ or an edit is over its budget."""
+results differ or an edit, a return or a store is over its budget."""
 import argparse
 import json
 import pathlib
@@ -14,6 +14,9 @@ import maps
 
 BUDGETS = {"acceptance": 1.3, "weight": 2.0}  # an edit that moves few places, in fills
 BOTH_BUDGET = 4.0  # any edit, in the fills before and after it together
+# returns, in fills, and stores, in loads: what is measured, how it is told, the budget
+RETURNS = (("few", "that moves few places", 2.2), ("none", "that moves none", 2.2), ("all", "after which all weights are others", 3.2))
+STORES = (("empty", "where none is stored", 1.2), ("eight", "of one of eight names", 1.2))
 TURNS = 5  # how often the draws of each kind are measured, by turns
 
 
@@ -71,16 +74,20 @@ def span(cells):
 
 
 def compared(folder, rounds, libcrush):
-    """The tables of the maps that are compared, and the fills that an edit of each kind takes, by map."""
-    ratios = [["plain C / engine", "load", "place", "fill", "fill*", "edit 21", "edit 22", "ceiling"] + ["libcrush"] * libcrush]
-    times = [["the engine's own times", "load", "place", "fill", "edit 21", "edit 22", "ceiling"]]
+    """The tables of the maps that are compared; by map the fills that an edit of each kind takes, and what returns and stores take."""
+    ratios = [["plain C / engine", "load", "place", "fill", "fill*", "edit 21", "edit 22", "ceiling", "return", "store"] + ["libcrush"] * libcrush]
+    times = [["the engine's own times", "load", "place", "fill", "edit 21", "edit 22", "ceiling", "return", "store"]]
     fills = [["in fills of the engine", "edit 21", "edit 22", "ceiling", "moves 21", "moves 22"]]
+    states = [["returns in fills, stores in loads", *(f"return: {name}" for name, *_ in RETURNS), *(f"store: {name}" for name, *_ in STORES),
+               "moves: few", "moves: all"]]
     rates = [["mappings a second", "engine", "libcrush"]]
-    filled, holes, shares = {}, [], []
+    filled, holes, shares, kept = {}, [], [], []
     for name, title, text in [*maps.COMPARED, maps.BLOCKS]:
         got = run(folder, ["bench", "all"], name, text(), rounds)
         filled[name] = got["fill"]
         columns = [got[call] for call in ("load", "place", "fill", "acceptance", "weight", "ceiling")]
+        # of the returns to and fro one
+        columns += [[took / 2 for took in got["return-few"]], got["store-empty"]]
         ratios.append([title] + [ratio(pair) for pair in columns])
         ratios[-1].insert(4, ratio(run(folder, ["bench-branchless", "fill"], name, text(), rounds)["fill"]))
         if libcrush:
@@ -94,14 +101,18 @@ def compared(folder, rounds, libcrush):
         ceiling = Ratio(got["ceiling"][0] / got["fill"][0])
         moves = [got[call][0] / got[call][1] for call in ("moves-acceptance", "moves-weight")]
         fills.append([title, *shares[-1], ceiling] + [f"{x:.1f}" for x in moves])
+        kept.append([Ratio(got[f"return-{which}"][0] / got[f"fills-{which}"][0]) for which, *_ in RETURNS])
+        kept[-1] += [Ratio(got[f"store-{which}"][0] / got["load"][0]) for which, *_ in STORES]
+        moves = [got[f"moves-return-{which}"][0] / got[f"moves-return-{which}"][1] for which in ("few", "all")]
+        states.append([title, *kept[-1]] + [f"{x:.1f}" for x in moves])
     dead = [["fill through 3 of 64 cabinets", "engine", "plain C"]]
     for name, title in (("dead", "4 dead / all alive"), ("quarter", "16 dead / all alive")):
         dead.append([title] + [Ratio(a / b) for a, b in zip(filled[name], filled["through"])])
-    tables = [ratios, times, fills, dead]
+    tables = [ratios, times, fills, states, dead]
     if libcrush:
         tables.append(rates)
         tables.append([["holes in all lists", "engine", "libcrush"], ["maps that libcrush has"] + [f"{sum(n):.0f}" for n in zip(*holes)]])
-    return tables, shares
+    return tables, shares, kept
 
 
 def edited(folder, rounds):
@@ -139,6 +150,12 @@ def grown(folder, rounds):
     return tables
 
 
+def greatest(runs):
+    """Of each column the greatest of all maps, of each map the run that was disturbed least."""
+    least = [[min(cells) for cells in zip(*same)] for same in zip(*runs)]
+    return [max(cells) for cells in zip(*least)]
+
+
 def main():
     parser = argparse.ArgumentParser()
     parser.add_argument("folder", type=pathlib.Path)
@@ -147,12 +164,13 @@ def main():
     parser.add_argument("--libcrush", action="store_true")
     args = parser.parse_args()
     print(processor())
-    runs, shares, boths = [], [], []
+    runs, shares, kept, boths = [], [], [], []
     for _ in range(args.runs):
-        tables, share = compared(args.folder, args.rounds, args.libcrush)
+        tables, share, keep = compared(args.folder, args.rounds, args.libcrush)
         many, both = edited(args.folder, args.rounds)
         runs.append([*tables, many, drawn(args.folder, args.rounds), *grown(args.folder, args.rounds)])
         shares.append(share)
+        kept.append(keep)
         boths.append(both)
     print("fill*: plain C that takes the digits of the logarithm without a branch, as the engine does; 21 is acceptance, 22 weight")
     if args.libcrush:
@@ -162,12 +180,14 @@ def main():
     for tables in zip(*runs):
         print_table([[span(cells) for cells in zip(*rows)] for rows in zip(*tables)])
         print()
-    # of each map the run that was disturbed least
-    least = [[min(cells) for cells in zip(*same)] for same in zip(*shares)]
     over = []
-    for (call, budget), cells in zip(BUDGETS.items(), zip(*least)):
-        over += [call] * (max(cells) > budget)
-        print(f"an edit of {call} takes at most {max(cells)} fills; its budget is {budget}")
+    for (call, budget), most in zip(BUDGETS.items(), greatest(shares)):
+        over += [call] * (most > budget)
+        print(f"an edit of {call} takes at most {most} fills; its budget is {budget}")
+    asked = [("return", words, "fills", budget) for _, words, budget in RETURNS] + [("store", words, "loads", budget) for _, words, budget in STORES]
+    for (call, words, unit, budget), most in zip(asked, greatest(kept)):
+        over += [f"a {call} {words}"] * (most > budget)
+        print(f"a {call} {words} takes at most {most} {unit}; its budget is {budget}")
     most = max(map(min, zip(*boths)))
     over += ["any edit"] * (most > BOTH_BUDGET)
     print(f"any edit takes at most {most} times the fills before and after it together; its budget is {BOTH_BUDGET}")

@@ -1,10 +1,10 @@
-/* Document 01, with changes 1 to 7 of document 02, in plain C, sentence by sentence: what the engine is measured against. */
+/* Document 01, with changes 1 to 8 of document 02, in plain C, sentence by sentence: what the engine is measured against. */
 #include "plain.h"
 
 #include <stdlib.h>
 #include <string.h>
 
-enum { DEVICES = 1024, BUCKETS = 256, BASE = 65536, CHILDREN = 64, STEPS = 16, PLACES = 32, HOLE = 0xffff, TRIES = 50, MOVE = 23 };
+enum { DEVICES = 1024, BUCKETS = 256, BASE = 65536, CHILDREN = 64, STEPS = 16, PLACES = 32, HOLE = 0xffff, TRIES = 50, MOVE = 23, STATES = 8 };
 enum { TAKE = 1, FIRST_N = 2, INDEPENDENT = 3, EMIT = 4, THROUGH = 5 };
 enum { STRAW = 1, TREE = 2 };
 enum { WRITTEN = 10 }; /* where a bucket's line has its weight */
@@ -48,7 +48,7 @@ static uint32_t field(const uint8_t *at, size_t digits) {
 
 static void put_field(uint8_t *at, size_t digits, uint32_t n) {
     for (size_t i = digits; i > 0; i--, n /= 16)
-        at[i - 1] = (uint8_t)"0123456789abcdef"[n % 16];
+        at[i - 1] = (uint8_t) "0123456789abcdef"[n % 16];
 }
 
 /* Digits of a frame, by its kind. */
@@ -397,26 +397,26 @@ static uint32_t read_map(struct map *m, const uint8_t *text, size_t len) {
 
 /* ---- hash */
 
-#define MIX(a, b, c)        \
-    do {                    \
-        a = a - b - c;      \
-        a = a ^ (c >> 13);  \
-        b = b - c - a;      \
-        b = b ^ (a << 8);   \
-        c = c - a - b;      \
-        c = c ^ (b >> 13);  \
-        a = a - b - c;      \
-        a = a ^ (c >> 12);  \
-        b = b - c - a;      \
-        b = b ^ (a << 16);  \
-        c = c - a - b;      \
-        c = c ^ (b >> 5);   \
-        a = a - b - c;      \
-        a = a ^ (c >> 3);   \
-        b = b - c - a;      \
-        b = b ^ (a << 10);  \
-        c = c - a - b;      \
-        c = c ^ (b >> 15);  \
+#define MIX(a, b, c)                                                                                                                                 \
+    do {                                                                                                                                             \
+        a = a - b - c;                                                                                                                               \
+        a = a ^ (c >> 13);                                                                                                                           \
+        b = b - c - a;                                                                                                                               \
+        b = b ^ (a << 8);                                                                                                                            \
+        c = c - a - b;                                                                                                                               \
+        c = c ^ (b >> 13);                                                                                                                           \
+        a = a - b - c;                                                                                                                               \
+        a = a ^ (c >> 12);                                                                                                                           \
+        b = b - c - a;                                                                                                                               \
+        b = b ^ (a << 16);                                                                                                                           \
+        c = c - a - b;                                                                                                                               \
+        c = c ^ (b >> 5);                                                                                                                            \
+        a = a - b - c;                                                                                                                               \
+        a = a ^ (c >> 3);                                                                                                                            \
+        b = b - c - a;                                                                                                                               \
+        b = b ^ (a << 10);                                                                                                                           \
+        c = c - a - b;                                                                                                                               \
+        c = c ^ (b >> 15);                                                                                                                           \
     } while (0)
 
 static const uint32_t SEED = 1315423911;
@@ -645,6 +645,51 @@ static void fill_rows(const struct map *m, uint16_t *table) {
         place_row(m, x, table + (size_t)x * m->width);
 }
 
+/* ---- named states */
+
+static uint32_t count_devices(const struct map *m) {
+    uint32_t n = 0;
+    for (uint32_t d = 0; d < DEVICES; d++)
+        n += m->device[d];
+    return n;
+}
+
+/* The word where state k begins: its name, then of each drive number, weight and acceptance. */
+static size_t state_at(uint32_t devices, uint32_t k) { return 2 + (size_t)k * (1 + 3 * devices); }
+
+static int state_fits(const struct map *m, const uint32_t *state) {
+    if (state[0] > 65535)
+        return 0;
+    state++;
+    for (uint32_t d = 0; d < DEVICES; d++) {
+        if (!m->device[d])
+            continue;
+        if (state[0] != d || state[1] > 65535 || state[2] > 65536)
+            return 0;
+        state += 3;
+    }
+    return 1;
+}
+
+/* Which of the states from k on has the name, or how many there are. */
+static uint32_t state_named(const uint32_t *states, uint32_t devices, uint32_t k, uint32_t name) {
+    while (k < states[0] && states[state_at(devices, k)] != name)
+        k++;
+    return k;
+}
+
+static int states_fit(const struct map *m, const uint32_t *states) {
+    uint32_t devices = count_devices(m);
+    if (states[0] > STATES || (states[0] > 0 && states[1] != devices))
+        return 0;
+    for (uint32_t k = 0; k < states[0]; k++) {
+        const uint32_t *state = states + state_at(devices, k);
+        if (!state_fits(m, state) || state_named(states, devices, k + 1, state[0]) < states[0])
+            return 0;
+    }
+    return 1;
+}
+
 /* ---- the calls */
 
 uint32_t plain_load(const uint8_t *text, size_t len) {
@@ -701,9 +746,9 @@ static int independent(const struct map *m) {
     return 1;
 }
 
-/* Questions 14, 16 and 17, in their order. */
-static uint32_t asked(struct map *m, const uint8_t *text, size_t len, size_t table_len) {
-    if (read_map(m, text, len) != 0)
+/* Questions 14, 16 and 17, in their order; the states may be none. */
+static uint32_t asked(struct map *m, const uint8_t *text, size_t len, const uint32_t *states, size_t table_len) {
+    if (read_map(m, text, len) != 0 || (states != NULL && !states_fit(m, states)))
         return 14;
     if (table_len < (size_t)m->groups * m->width)
         return 16;
@@ -729,33 +774,29 @@ static void put_move(uint8_t *to, uint32_t group, uint32_t place, uint32_t old, 
     to[22] = 10;
 }
 
-struct plain_made plain_edit(uint8_t *text, size_t len, uint16_t *table, size_t table_len, const uint8_t *frame, size_t frame_len, uint8_t *space,
-                             size_t space_len) {
-    static struct map m;
-    struct plain_made r = {asked(&m, text, len, table_len), 0};
-    if (r.number == 0 && (!edit_formed(frame, frame_len) || !has_device(&m, field(frame + 2, 4)) ||
-                          field(frame + 6, 8) > (kind_of(frame) == 0x21 ? 65536u : 65535u)))
-        r.number = 18;
-    if (r.number != 0)
-        return r;
-    size_t places = (size_t)m.groups * m.width;
-    uint32_t device = field(frame + 2, 4), value = field(frame + 6, 8), moves = 0;
-    int weight = kind_of(frame) == 0x22;
-    uint16_t *fresh = malloc(places * sizeof *fresh);
-    if (fresh == NULL)
+static uint16_t *room_for(size_t places) {
+    uint16_t *table = malloc(places * sizeof *table);
+    if (table == NULL)
         abort();
-    fill_rows(&m, fresh);
-    if (memcmp(fresh, table, places * sizeof *fresh) != 0) {
-        free(fresh);
-        r.number = 19;
-        return r;
-    }
-    if (weight)
-        m.weight[device] = value;
-    else
-        m.acceptance[device] = value;
-    weigh_all(&m);
-    fill_rows(&m, fresh);
+    return table;
+}
+
+static int is_filled(const struct map *m, const uint16_t *table) {
+    size_t places = (size_t)m->groups * m->width;
+    uint16_t *fresh = room_for(places);
+    fill_rows(m, fresh);
+    int same = memcmp(fresh, table, places * sizeof *fresh) == 0;
+    free(fresh);
+    return same;
+}
+
+/* Fills the table of another map anew, and writes the moves; 20 where there is too little space. */
+static struct plain_made refill(const struct map *m, uint16_t *table, uint8_t *space, size_t space_len) {
+    struct plain_made r = {0, 0};
+    size_t places = (size_t)m->groups * m->width;
+    uint32_t moves = 0;
+    uint16_t *fresh = room_for(places);
+    fill_rows(m, fresh);
     for (size_t i = 0; i < places; i++)
         moves += fresh[i] != table[i];
     if (space_len / MOVE < moves) {
@@ -765,12 +806,88 @@ struct plain_made plain_edit(uint8_t *text, size_t len, uint16_t *table, size_t 
     }
     for (size_t i = 0, k = 0; i < places; i++)
         if (fresh[i] != table[i])
-            put_move(space + MOVE * k++, (uint32_t)(i / m.width), (uint32_t)(i % m.width) + 1, table[i], fresh[i]);
+            put_move(space + MOVE * k++, (uint32_t)(i / m->width), (uint32_t)(i % m->width) + 1, table[i], fresh[i]);
     memcpy(table, fresh, places * sizeof *fresh);
     free(fresh);
+    r.moves = moves;
+    return r;
+}
+
+struct plain_made plain_edit(uint8_t *text, size_t len, uint16_t *table, size_t table_len, const uint8_t *frame, size_t frame_len, uint8_t *space,
+                             size_t space_len) {
+    static struct map m;
+    struct plain_made r = {asked(&m, text, len, NULL, table_len), 0};
+    if (r.number == 0 &&
+        (!edit_formed(frame, frame_len) || !has_device(&m, field(frame + 2, 4)) || field(frame + 6, 8) > (kind_of(frame) == 0x21 ? 65536u : 65535u)))
+        r.number = 18;
+    if (r.number == 0 && !is_filled(&m, table))
+        r.number = 19;
+    if (r.number != 0)
+        return r;
+    uint32_t device = field(frame + 2, 4), value = field(frame + 6, 8);
+    int weight = kind_of(frame) == 0x22;
+    if (weight)
+        m.weight[device] = value;
+    else
+        m.acceptance[device] = value;
+    weigh_all(&m);
+    r = refill(&m, table, space, space_len);
+    if (r.number != 0)
+        return r;
     put_field(text + m.line[device] + (weight ? 6 : 14), 8, value);
     write_weights(&m, text);
-    r.moves = moves;
+    return r;
+}
+
+uint32_t plain_store(const uint8_t *text, size_t len, uint32_t *states, uint16_t name) {
+    static struct map m;
+    if (read_map(&m, text, len) != 0 || !states_fit(&m, states))
+        return 14;
+    uint32_t devices = count_devices(&m), k = state_named(states, devices, 0, name);
+    if (k == STATES)
+        return 25;
+    uint32_t *state = states + state_at(devices, k);
+    *state++ = name;
+    for (uint32_t d = 0; d < DEVICES; d++) {
+        if (!m.device[d])
+            continue;
+        *state++ = d;
+        *state++ = m.weight[d];
+        *state++ = m.acceptance[d];
+    }
+    states[0] += k == states[0];
+    states[1] = devices;
+    return 0;
+}
+
+struct plain_made plain_return(uint8_t *text, size_t len, uint16_t *table, size_t table_len, const uint32_t *states, uint16_t name, uint8_t *space,
+                               size_t space_len) {
+    static struct map m;
+    struct plain_made r = {asked(&m, text, len, states, table_len), 0};
+    if (r.number != 0)
+        return r;
+    uint32_t devices = count_devices(&m), k = state_named(states, devices, 0, name);
+    if (k == states[0])
+        r.number = 24;
+    else if (!is_filled(&m, table))
+        r.number = 19;
+    if (r.number != 0)
+        return r;
+    const uint32_t *drives = states + state_at(devices, k) + 1;
+    for (uint32_t i = 0; i < devices; i++) {
+        m.weight[drives[3 * i]] = drives[3 * i + 1];
+        m.acceptance[drives[3 * i]] = drives[3 * i + 2];
+    }
+    weigh_all(&m);
+    r = refill(&m, table, space, space_len);
+    if (r.number != 0)
+        return r;
+    for (uint32_t i = 0; i < devices; i++) {
+        uint8_t *line = text + m.line[drives[3 * i]];
+        put_field(line + 6, 8, drives[3 * i + 1]);
+        put_field(line + 14, 8, drives[3 * i + 2]);
+    }
+    write_weights(&m, text);
     return r;
 }
 
@@ -788,22 +905,14 @@ static uint32_t holders(const struct map *m, const uint16_t *table, uint32_t dev
 
 struct plain_limit plain_ceiling(const uint8_t *text, size_t len, const uint16_t *table, size_t table_len, uint32_t device) {
     static struct map m;
-    struct plain_limit r = {asked(&m, text, len, table_len), 0, 0};
+    struct plain_limit r = {asked(&m, text, len, NULL, table_len), 0, 0};
     if (r.number == 0 && !has_device(&m, device))
         r.number = 18;
+    if (r.number == 0 && !is_filled(&m, table))
+        r.number = 19;
     if (r.number != 0)
         return r;
-    size_t places = (size_t)m.groups * m.width;
-    uint16_t *fresh = malloc(places * sizeof *fresh);
-    if (fresh == NULL)
-        abort();
-    fill_rows(&m, fresh);
-    if (memcmp(fresh, table, places * sizeof *fresh) != 0) {
-        r.number = 19;
-    } else {
-        r.groups = holders(&m, table, device);
-        r.moves = m.width * r.groups;
-    }
-    free(fresh);
+    r.groups = holders(&m, table, device);
+    r.moves = m.width * r.groups;
     return r;
 }

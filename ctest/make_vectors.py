@@ -7,12 +7,13 @@ usage: make_vectors.py --oracle DIR [--level L] > vectors.txt
        make_vectors.py --oracle DIR [--level L] --calls > calls.txt
        make_vectors.py --oracle DIR [--level L] --hashes > hashes.txt
 
-DIR holds the reference: crush.py, fill.py and gen.py; L is the last change of document 02 that counts. In vectors.txt, days.txt and ceilings.txt a
-line is a call: the map's bytes in hexadecimal (or - for none); then of crush_place the group, the size of the space, and the answer: number, places,
-tries, and the bytes written in hexadecimal (or -); of crush_day_group the show, the day, and the answer: number and group; of crush_ceiling the
-table, four hexadecimal digits a place (or - for none), the drive, and the answer: number, groups and moves. calls.txt has calls of crush_load,
-crush_fill, crush_edit, crush_write and crush_day_drives in the form that calls_test.c tells. hashes.txt has the lines of each map and behind them its
-calls (place, fill and edit), each with how many of the tests of a device that are made for it meet an acceptance other than 65,536 and 0.
+DIR holds the reference: crush.py, calls.py, fill.py and gen.py; L is the last change of document 02 that counts, 8 where it is not told. In
+vectors.txt, days.txt and ceilings.txt a line is a call: the map's bytes in hexadecimal (or - for none); then of crush_place the group, the size of
+the space, and the answer: number, places, tries, and the bytes written in hexadecimal (or -); of crush_day_group the show, the day, and the answer:
+number and group; of crush_ceiling the table, four hexadecimal digits a place (or - for none), the drive, and the answer: number, groups and moves.
+calls.txt has calls of crush_sizes_of, crush_load, crush_fill, crush_edit, crush_store, crush_return, crush_write and crush_day_drives in the form
+that calls_test.c tells. hashes.txt has the lines of each map and behind them its calls (place, fill and edit), each with how many of the tests of a
+device that are made for it meet an acceptance other than 65,536 and 0.
 """
 import argparse
 import os
@@ -22,7 +23,7 @@ from unittest import mock
 
 ap = argparse.ArgumentParser()
 ap.add_argument('--oracle', required=True)
-ap.add_argument('--level', type=int, default=6)
+ap.add_argument('--level', type=int, default=8)
 ap.add_argument('--days', action='store_true')
 ap.add_argument('--ceilings', action='store_true')
 ap.add_argument('--calls', action='store_true')
@@ -30,13 +31,19 @@ ap.add_argument('--hashes', action='store_true')
 ARGS = ap.parse_args()
 sys.path[:0] = [ARGS.oracle, os.path.join(os.path.dirname(os.path.abspath(__file__)), '..', 'tools')]
 import blocks  # noqa: E402
+import calls as others  # noqa: E402
 import ceilings  # noqa: E402
 import crush  # noqa: E402
 import fill   # noqa: E402
 import gen    # noqa: E402
+import states  # noqa: E402
 import weights  # noqa: E402
 
-gen.Doc.level = ARGS.level
+# the generator draws other maps for every level; changes 7 and 8 alter no map, and so have those of change 6
+DRAWN = 6 if ARGS.level in (7, 8) else ARGS.level
+gen.Doc.level = DRAWN
+WORDS = 2 + states.MOST * states.size(1024)  # of the states that a call is lent
+FREE = 0x5a5a5a5a  # a word that holds nothing yet
 
 
 def maps(seeds, most):
@@ -45,7 +52,7 @@ def maps(seeds, most):
     for i in range(seeds):
         # every third seed of the edges is one of document 01, and the two between are the changes' own
         for kind, seed in (('valid', i), ('damaged', i), ('edges', 3 * i), ('edges', i + i // 2 + 1)):
-            data = fill.split_input(gen.generate(seed, kind, ARGS.level))[0]
+            data = fill.split_input(gen.generate(seed, kind, DRAWN))[0]
             if len(data) <= most:
                 yield i, data, crush.load(data, ARGS.level)
 
@@ -154,7 +161,7 @@ def text_of(data):
 
 
 def altered_in(before, after, spell):
-    """Where and how what an edit leaves differs from what it was lent, of the same length."""
+    """Where and how what a call leaves differs from what it was lent, of the same length."""
     assert len(before) == len(after)
     found, at = [], 0
     while at < len(before):
@@ -167,11 +174,23 @@ def altered_in(before, after, spell):
     return ','.join(found) or '-'
 
 
+def altered_text(before, after):
+    return altered_in(before, after, lambda at, values: [f'{at}={values.decode()}'])
+
+
+def altered_table(before, after):
+    return altered_in(before, after, lambda at, values: [f'{at + i}={value:04x}' for i, value in enumerate(values)])
+
+
+def altered_words(before, after):
+    return altered_in(before, after, lambda at, values: [f'{at + i}={value}' for i, value in enumerate(values)])
+
+
 class Lent:
-    """The map and the table that the calls of calls.txt are lent."""
+    """The map, the table and the states that the calls of calls.txt are lent."""
 
     def __init__(self, data, table):
-        self.data, self.table = data, table
+        self.data, self.table, self.words = data, table, None
         self.map = crush.load(data, ARGS.level)
         print('map', text_of(data))
         self.lend(table)
@@ -180,11 +199,21 @@ class Lent:
         self.table = table
         print('table', places_of(table))
 
+    def lend_states(self, words):
+        """Words over the front of those that hold nothing."""
+        self.words = words + [FREE] * (WORDS - len(words))
+        while words and words[-1] == FREE:
+            words = words[:-1]
+        print('states', ','.join(map(str, words)) or '-')
+
     def is_refused(self):
         return isinstance(self.map, int)
 
     def load(self):
+        """A load empties the states, unless it is refused."""
         print('load', *((self.map, 0, 0) if self.is_refused() else (0, self.map.G, self.map.W)))
+        if self.words and not self.is_refused():
+            self.words = states.words([], self.words)
 
     def fill(self, room):
         space = [crush.HOLE] * room
@@ -211,12 +240,28 @@ class Lent:
         else:
             done = crush.edit(self.map, self.table, frame, room, False)
         data = self.data if done.number else crush.map_bytes(done.map)
-        in_map = altered_in(self.data, data, lambda at, values: [f'{at}={values.decode()}'])
-        in_table = altered_in(self.table, done.table, lambda at, values: [f'{at + i}={value:04x}' for i, value in enumerate(values)])
         moves = b''.join(crush.move_frame(*move) for move in done.moves)
-        print('edit', text_of(frame), room, done.number, len(done.moves), in_map, in_table, text_of(moves))
+        print('edit', text_of(frame), room, done.number, len(done.moves), altered_text(self.data, data), altered_table(self.table, done.table),
+              text_of(moves))
         self.data, self.map, self.table = data, done.map, done.table
         return done.number, len(done.moves)
+
+    def store(self, name):
+        number, words = states.store(crush, others, ARGS.level, self.data, self.words, name)
+        print('store', name, number, altered_words(self.words, words))
+        self.words = words
+        return number
+
+    def back(self, name, room):
+        """A return; answers the number. What it leaves is lent to the calls behind it, as behind an edit."""
+        number, moves, data, table, lines = states.back(crush, others, ARGS.level, self.data, self.table, self.words, name, room)
+        print('return', name, room, number, moves, altered_text(self.data, data), altered_table(self.table, table), text_of(lines))
+        self.data, self.map, self.table = data, crush.load(data, ARGS.level), table
+        return number
+
+    def moves_back(self, name):
+        """How many moves a return makes that is taken."""
+        return states.back(crush, others, ARGS.level, self.data, self.table, self.words, name, 23 * len(self.table))[1]
 
 
 def good_frames(rng, mp, count):
@@ -286,11 +331,102 @@ def calls_of(rng, data):
     to.edit(good, 23 * len(fresh))
 
 
+def campaign(rng, to, names):
+    """Stores, edits and returns one after another, names replaced among them; then as many names as there can be, and one more."""
+    room = 23 * len(to.table)
+    to.load()
+    to.back(names[0], room)
+    for name in (*names[:3], names[1], names[0]):
+        to.store(name)
+        for frame in good_frames(rng, to.map, rng.choice((1, 1, 2, 4))):
+            to.edit(frame, room)
+        known = rng.choice(names[:3])
+        moves = to.moves_back(known)
+        if moves:
+            # a byte too short, and less
+            to.back(known, 23 * moves - rng.choice((1, 1, 22, 23, 23 * moves)))
+        to.back(known, 23 * moves + rng.choice((0, 0, 1, 23, 40)))
+        # a second time nothing moves, and no space is needed
+        to.back(known, 0)
+        to.back(names[8], rng.choice((0, room)))
+    for name in (*names[3:], names[2], names[7]):
+        to.store(name)
+    for frame in good_frames(rng, to.map, 2):
+        to.edit(frame, room)
+    to.store(rng.choice(names[:8]))
+    to.store(names[8])
+    for name in rng.sample(names[:8], 2):
+        to.back(name, room)
+
+
+def damages(rng, to, mp, names):
+    """Words that question 14 is answered no of, and others that look alike and are good."""
+    kept = [(name, states.changed(rng, mp, rng.choice((0, 1, 3)))) for name in names[:3]]
+    beyond = [FREE] * (2 + 3 * states.size(len(mp.devices)))
+    bad = list(states.bad_words(rng, mp, kept, beyond))
+    for _, words in bad:
+        to.lend_states(words)
+        to.store(rng.choice((names[0], names[4])))
+        to.back(rng.choice((names[0], names[4])), rng.choice((0, 23 * len(to.table))))
+    for _, words in states.good_words(rng, mp, kept, beyond):
+        to.lend_states(words)
+        to.store(rng.choice((names[0], names[4])))
+    return rng.choice(bad)[1], states.words(kept, beyond)
+
+
+def states_of(rng, data):
+    """Loads, stores and returns on a map: each answered and each refused by what it is lent, and by two things at once."""
+    mp = crush.load(data, ARGS.level)
+    names = states.named(rng, 9)
+    if isinstance(mp, int):
+        to = Lent(data, [0, crush.HOLE])
+        for words in ([1, 2, 3], [0, 7], []):
+            to.lend_states(words)
+            to.load()
+            to.store(names[0])
+            to.back(names[0], rng.choice((0, 230)))
+        return
+    fresh = crush.fresh_fill(mp)
+    to = Lent(data, fresh)
+    # not loaded yet
+    to.lend_states([rng.choice((9, FREE)), *rng.sample(range(2 ** 32), 3)])
+    to.store(names[0])
+    if any(step[0] == crush.FIRSTN for step in mp.steps):
+        to.load()
+        to.back(names[0], 0)
+        to.store(names[0])
+        to.back(names[0], 23 * len(fresh))
+        to.lend(fresh[:-1])
+        to.back(names[0], 0)
+        return
+    campaign(rng, to, names)
+    to = Lent(data, fresh)
+    bad, good = damages(rng, to, mp, names)
+    short, other, room = fresh[:-1], ceilings.altered(crush, rng, mp, fresh, rng.choice(sorted(mp.devices))), 23 * len(fresh)
+    # each question answered no alone, and with all behind it
+    for words, table, name, space in (
+            (bad, short, names[4], 0), (good, short, names[0], room), (good, short, names[4], 0), (good, other, names[4], 0),
+            (good, fresh, names[4], room), (good, other, names[0], room), (good, other, names[0], 0)):
+        to.lend(table)
+        to.lend_states(words)
+        to.back(name, space)
+    # behind the places of the last group nothing is looked at and nothing altered
+    to.lend(fresh + [7, 0, 7][:rng.randint(0, 3)])
+    for name in names[:3]:
+        to.back(name, room)
+    # a refused load leaves the states
+    to = Lent(ceilings.damaged(crush, rng, mp), fresh)
+    to.lend_states(good)
+    to.load()
+    to.store(names[0])
+    to.back(names[0], room)
+
+
 def every_refusal(seeds, each):
     """Of the maps of so many seeds that load refuses the shortest, so many by each number."""
     by_number = {number: set() for number in (*range(1, 13), 21, 22, 23)}
     for seed in range(seeds):
-        data = fill.split_input(gen.generate(seed, 'damaged', ARGS.level))[0]
+        data = fill.split_input(gen.generate(seed, 'damaged', DRAWN))[0]
         number = crush.load(data, ARGS.level)
         if isinstance(number, int):
             by_number[number].add(data)
@@ -303,8 +439,12 @@ def calls():
     rng = random.Random(21)
     good = [data for _, data, mp in maps(40, 900) if not isinstance(mp, int) and mp.G * mp.W <= 60]
     nested = [weights.nested(gen, random.Random(f'calls:{depth}:{i}'), depth).bytes() for depth in range(1, 6) for i in range(4)]
-    for data in [b'', *every_refusal(1000, 4), *good, *sharing(12, 3), *nested]:
+    shared = sharing(12, 3)
+    for data in [b'', *every_refusal(1000, 4), *good, *shared, *nested]:
         calls_of(rng, data)
+    rng = random.Random(8)
+    for data in [b'', *every_refusal(1000, 1), *good[::6], *shared[::4], *nested[::3]] if ARGS.level >= crush.STATES else []:
+        states_of(rng, data)
 
 
 def accepting(rng, data, values):

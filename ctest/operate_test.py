@@ -1,11 +1,13 @@
 #!/usr/bin/env python3
-"""Program `operate`: each map that it writes gives, loaded again, the table that it told; a day on the example archive; tables of the most places.
+"""Program `operate`: each map that it writes gives, loaded again, the table that it told; a day and a campaign on the example archive; tables of the
+most places. All of it in a stack of 8 MiB.
 
 Usage: operate_test.py OPERATE FILL (from the repository's root). What `fill` prints is the measure for as many groups as it takes."""
-import subprocess, sys, time
+import resource, subprocess, sys, time
 
 OPERATE, FILL = sys.argv[1:]
 GROUPS = 65536
+STACK = 8 << 20
 # the table is told before the map and behind it
 ASKED = b"2d\n2c\n2d\n"
 ARCHIVE = open("examples/archive.map", "rb").read()
@@ -20,7 +22,8 @@ def expect(name, holds):
 
 
 def output(program, given):
-    return subprocess.run([program], input=given, stdout=subprocess.PIPE, check=True).stdout
+    limit = lambda: resource.setrlimit(resource.RLIMIT_STACK, (STACK, STACK))
+    return subprocess.run([program], input=given, stdout=subprocess.PIPE, check=True, preexec_fn=limit).stdout
 
 
 def groups_of(frames):
@@ -56,6 +59,10 @@ def moved(rows, moves):
             return []
         rows[group][at : at + 4] = move[16:20]
     return rows
+
+
+def is_return(moves):
+    return bool(moves) and all(move.startswith(b"13") and move.endswith(b"04\n") for move in moves)
 
 
 def wide():
@@ -98,6 +105,31 @@ printed = output(OPERATE, evening + back + b"2d\n2c\n")
 expect("the saved map does not give the table that was left", printed.startswith(left))
 expect("the table and the map are not as they were", printed.endswith(fresh + ARCHIVE))
 
+# a campaign: what was stored is returned to, by moves of cause 04; a second time nothing moves, and another name is not known
+STORE, RETURN = b"230001\n", b"240001\n"
+shifts = b"".join(edits_of(ARCHIVE)[:2])
+edited = output(OPERATE, ARCHIVE + shifts)
+printed = output(OPERATE, ARCHIVE + STORE + shifts + RETURN + RETURN + b"240002\n2d\n2c\n")
+expect("a store prints something, or the edits behind it move otherwise", printed.startswith(edited))
+back, end = printed[len(edited) :].splitlines(keepends=True), b"1f18\n" + fresh + ARCHIVE
+expect("the map and the table are not as stored", printed.endswith(end))
+back = back[: len(back) - end.count(b"\n")]
+expect("the moves of a return", is_return(back))
+rows, moves = ([line for line in edited.splitlines(keepends=True) if line.startswith(kind)] for kind in (b"11", b"13"))
+expect("the moves of a return do not take those of the edits back", b"".join(moved(rows, moves + back)) == fresh)
+
+# eight names have room, and storing under one of them replaces it; other forms are refused; a map that is loaded again has no state
+names = [b"0000", b"0001", b"00ff", b"0100", b"1234", b"8000", b"fffe", b"ffff"]
+stores = b"".join(b"23%s\n" % name for name in names)
+told = lambda lines: output(OPERATE, ARCHIVE + lines)[len(fresh) :]
+expect("eight stores print something", told(stores + stores) == b"")
+expect("a ninth name", told(stores + b"230002\n240002\n" + stores) == b"1f19\n1f18\n")
+replaced = told(stores + shifts + b"23ffff\n240000\n24ffff\n2c\n")
+expect("a state that was replaced", replaced.endswith(output(OPERATE, ARCHIVE + shifts + b"2c\n")[len(edited) :]))
+for form in (b"23", b"24", b"23001", b"24001", b"2300010", b"2400010", b"23000A", b"24000A", b"23 001", b"2 0001", b"250001"):
+    expect(f"line {form.decode()}", told(stores + form + b"\n") == b"1f12\n")
+expect("a state in a map that was loaded again", output(OPERATE, evening + RETURN) == left + b"1f18\n")
+
 # the most places that `fill` takes, one group more, and the most groups; then edits, the first of the archive with too many moves
 heavy, dead = b"2200000000ffff\n", b"21000000000000\n"
 took = []
@@ -108,14 +140,17 @@ for places, frames, most, edits, refused in ((3, ARCHIVE, 10922, heavy + dead, [
     above = output(OPERATE, with_groups(frames, most + 1))
     expect(f"{most + 1} groups of {places} places in operate", above.startswith(rows) and above.count(b"\n") == most + 1)
     begun = time.monotonic()
-    lines = output(OPERATE, with_groups(frames, GROUPS) + edits + b"2d\n").splitlines(keepends=True)
-    took.append(f"{GROUPS} groups of {places} places, edited and told again, in {time.monotonic() - begun:.1f} s")
-    table, between, left = lines[:GROUPS], lines[GROUPS:-GROUPS], lines[-GROUPS:]
+    lines = output(OPERATE, with_groups(frames, GROUPS) + STORE + edits + b"2d\n" + RETURN + b"2d\n").splitlines(keepends=True)
+    took.append(f"{GROUPS} groups of {places} places, edited, told again and returned to, in {time.monotonic() - begun:.1f} s")
+    at = next(at for at, line in enumerate(lines[GROUPS:], GROUPS) if line.startswith(b"11"))
+    table, between, left = lines[:GROUPS], lines[GROUPS:at], lines[at : at + GROUPS]
+    back, again = lines[at + GROUPS : -GROUPS], lines[-GROUPS:]
     moves = between[len(refused) :]
     expect(f"the rows of {GROUPS} groups of {places} places", b"".join(table).startswith(rows) and table[-1].startswith(b"110000ffff"))
     expect(f"the refusals of {GROUPS} groups of {places} places", between[: len(refused)] == refused)
     expect(f"the moves of {GROUPS} groups of {places} places", moves and all(line.startswith(b"13") for line in moves))
     expect(f"the rows of {GROUPS} groups of {places} places behind edits", left == moved(table, moves))
+    expect(f"the rows of {GROUPS} groups of {places} places behind a return", is_return(back) and again == moved(left, back) and again == table)
 
 print(f"operate: {maps} maps saved {saved} times and loaded again; {'; '.join(took)}; {wrong} wrong")
 sys.exit(wrong != 0)

@@ -9,7 +9,7 @@ int main(void) {
     static uint8_t map[CRUSH_MAP_MOST + 1];
     uint8_t out[CRUSH_PLACE_MOST];
     size_t n = fread(map, 1, sizeof map, stdin);
-    struct crush_sizes sizes = crush_load(map, n);
+    struct crush_sizes sizes = crush_sizes_of(map, n);
     if (sizes.number != 0) {
         printf("1f%02x\n", sizes.number);
         return 0;

@@ -17,6 +17,7 @@ enum { LEVELS = 255, BASE = 65536, GROUPS = 8, PAGE = 4096, PAINT = 0xa5 };
 static uint8_t map[CRUSH_MAP_MOST], copy[CRUSH_MAP_MOST];
 static uint16_t table[GROUPS];
 static uint8_t list[CRUSH_PLACE_MOST], moves[CRUSH_MOVE * GROUPS];
+static uint32_t states[CRUSH_STATES];
 static size_t len;
 static unsigned lines;
 
@@ -46,10 +47,11 @@ static void write_map(unsigned step, unsigned type) {
 }
 
 /* The calls, each answering whether it was answered right. */
-static int load(void) {
-    struct crush_sizes r = crush_load(map, len);
-    return r.number == 0 && r.groups == GROUPS && r.places == 1;
-}
+static int is_sized(struct crush_sizes r) { return r.number == 0 && r.groups == GROUPS && r.places == 1; }
+
+static int sizes_of(void) { return is_sized(crush_sizes_of(map, len)); }
+
+static int load(void) { return is_sized(crush_load(map, len, states)); }
 
 static int place(void) {
     struct crush_placing r = crush_place(map, len, GROUPS - 1, list, sizeof list);
@@ -79,11 +81,24 @@ static int raise_again(void) { return edit("21000000010000"); }
 static int heavier(void) { return edit("2200000000ffff"); }
 static int lighter(void) { return edit("22000000000001"); }
 
+/* Both drives as they are, under the first name, and with one of them dead under the last. */
+static int store(void) { return crush_store(map, len, states, 0) == 0; }
+static int store_other(void) { return crush_store(map, len, states, 65535) == 0; }
+
+static int return_to(uint16_t name) {
+    struct crush_edited r = crush_return(map, len, table, GROUPS, states, name, moves, sizeof moves);
+    return r.number == 0 && r.moves > 0;
+}
+
+static int back(void) { return return_to(0); }
+static int forth(void) { return return_to(65535); }
+
 static struct {
     const char *name;
     int (*function)(void);
     size_t stack, used; /* lent, and the most that was used */
 } calls[] = {
+    {"sizes_of", sizes_of, CRUSH_PLACE_STACK, 0},
     {"load", load, CRUSH_PLACE_STACK, 0},
     {"place", place, CRUSH_PLACE_STACK, 0},
     {"day_group", day_group, CRUSH_PLACE_STACK, 0},
@@ -92,7 +107,11 @@ static struct {
     /* the table of these is the one that fill leaves */
     {"fill", fill, CRUSH_PLACE_STACK, 0},
     {"ceiling", ceiling, CRUSH_PLACE_STACK, 0},
+    {"store", store, CRUSH_PLACE_STACK, 0},
     {"edit: acceptance lowered", lower, CRUSH_STACK, 0},
+    {"store: a second name", store_other, CRUSH_PLACE_STACK, 0},
+    {"return", back, CRUSH_STACK, 0},
+    {"return: to the other", forth, CRUSH_STACK, 0},
     {"edit: acceptance raised", raise_again, CRUSH_STACK, 0},
     {"edit: weight raised", heavier, CRUSH_STACK, 0},
     {"edit: weight lowered", lighter, CRUSH_STACK, 0},

@@ -46,7 +46,7 @@ static inline void *room_for(size_t count, size_t size) {
 
 /* The table of a map, with its number of places. The caller frees it. */
 static inline uint16_t *table_of(const uint8_t *map, size_t map_len, size_t *places) {
-    struct crush_sizes sizes = crush_load(map, map_len);
+    struct crush_sizes sizes = crush_sizes_of(map, map_len);
     expect_none(sizes.number);
     *places = (size_t)sizes.groups * sizes.places;
     uint16_t *table = room_for(*places, sizeof *table);

@@ -17,14 +17,19 @@ import sys
 import blocks
 
 KINDS = ("valid", "damaged", "edges", "ambiguous")
+# of program `operate`, from change 8 on: lists of calls as the other hand draws them
+LISTS = ("operate", "operate-edges")
 PROGRAMS = pathlib.Path(__file__).resolve().parent.parent / "target" / "bin"
 # the largest table, which program `operate` takes, and the most places of one that gets more edits: the other CRUSH is slow
 MOST_PLACES = 65536 * 32
 FEW_PLACES = 4096
 CALLS = (b"2c", b"2d")
+# from change 8 on: the calls that have a name, and ten names, more than there is room for
+NAMED = (b"23", b"24")
+NAMES = (b"0000", b"0001", b"0002", b"0003", b"0007", b"00ff", b"1234", b"8000", b"abcd", b"ffff")
 # lines of no form: a call that is cut, spelled otherwise, longer or of another letter; edits that are too short or too long
 FORMLESS = (b"", b"2", b"c", b"2C", b"2D", b"2c2c", b"2d2d", b"2c ", b" 2d", b"2d\r", b"2c0", b"2d\0", b"\0\0", b"\xb2c", b"2b", b"2e", b"1c", b"12d",
-            b"3d", b"23 0001", b"230001", b"0500", b"00", b"2100000000000", b"210000000000000", b"2d0000000000000", b"2c" * 7, b"2d" * 8,
+            b"3d", b"23 0001", b"23000", b"24000A", b"0500", b"00", b"2100000000000", b"210000000000000", b"2d0000000000000", b"2c" * 7, b"2d" * 8,
             b"2c" * 35000, b"21" + b"0" * 69998)
 
 
@@ -33,7 +38,7 @@ def output_of(command, given):
 
 
 def with_lines(crush, reference, rng, given, level):
-    """The input with calls, lines of no form and edits of the map's drives put among its lines. One that is cut off in its map stays as it is."""
+    """The input with calls, lines of no form and edits of the map's drives put among its lines, and from change 8 on stores and returns. One that is cut off in its map stays as it is."""
     frames, rest = reference.cut(given)
     if not frames.endswith(b"\n"):
         return given
@@ -41,6 +46,8 @@ def with_lines(crush, reference, rng, given, level):
     more = [rng.choice(CALLS) for _ in range(rng.randrange(5))] + [rng.choice(FORMLESS) for _ in range(rng.choice((0, 0, 1, 2, 4)))]
     if isinstance(mp, crush.Map) and mp.G * mp.W <= FEW_PLACES:
         more += blocks.possible_edits(rng, mp)[:rng.choice((0, 0, 1, 3, 6))]
+    if level >= 8:
+        more += [rng.choice(NAMED) + rng.choice(NAMES[:rng.choice((2, 10))]) for _ in range(rng.choice((0, 2, 6, 24)))]
     lines = reference.split_input(given)[1]
     for line in more:
         lines.insert(rng.randint(0, len(lines)), line)
@@ -52,7 +59,7 @@ def call_of(crush, line):
     """What kind of line it is, behind a map."""
     if crush.edit_form(line) is not None:
         return "edit"
-    return line.decode() if line in CALLS else "other"
+    return line.decode() if line in CALLS else line[:2].decode() if line[:2] in NAMED and len(line) == 6 else "other"
 
 
 def name_of(line):
@@ -71,7 +78,7 @@ def main():
     parser.add_argument("--level", type=int, default=7)
     parser.add_argument("--maps", type=int, default=100)
     parser.add_argument("--first", type=int, default=0)
-    parser.add_argument("--kinds", nargs="+", choices=KINDS, default=KINDS)
+    parser.add_argument("--kinds", nargs="+", choices=KINDS + LISTS)
     parser.add_argument("--program", type=pathlib.Path)
     options = parser.parse_args()
     sys.path.insert(0, str(options.oracle))
@@ -86,10 +93,10 @@ def main():
         reference.TABLE_PLACES = MOST_PLACES
     calls, answers = collections.Counter(), collections.Counter()
     inputs = edited = through = trees = shared = altered = wrong = 0
-    for kind in options.kinds:
+    for kind in options.kinds or (KINDS + LISTS if options.operate and options.level >= 8 else KINDS):
         for seed in range(options.first, options.first + options.maps):
             drawn = gen.generate(seed, kind, options.level)
-            given = with_lines(crush, reference, random.Random(f"{kind} {seed}"), drawn, options.level)
+            given = drawn if kind in LISTS else with_lines(crush, reference, random.Random(f"{kind} {seed}"), drawn, options.level)
             want = emulate(given, options.level)
             got = output_of([program], given)
             inputs += 1

@@ -1,21 +1,22 @@
 #!/usr/bin/env python3
-"""Makes the cases of program `vectors` anew: maps with edits, and what a CRUSH by another hand gives for them.
+"""Makes the cases of program `vectors` anew: maps with edits and other calls, and what a CRUSH by another hand gives for them.
 
-make_vectors.py --oracle DIR [--level L]: DIR holds that CRUSH as crush.py, fill.py and gen.py; L is the last change of document 02 that counts.
-Writes crates/vectors/data/cases and crates/vectors/stdout. A case is a line of five numbers of eight digits, then the bytes of the map, of the
-edits and of the answer: the numbers are these three lengths, the groups and the width (0 and 0 of a refused map). The answer is a refusal; or each
-row, behind those of the groups below 64 a frame `12` with the tries (8), then what each edit prints and the map that is left. The second line of
-stdout is of change 7: of the edits of an acceptance that are taken, how many move more places than W for each group whose list holds the drive, in
-the table before the edit or, where the acceptance is raised, in the one after it; all their moves and all these ceilings; and the edit whose moves
-come nearest to its ceiling, with the number of its case, from 1; of those that come as near the one with the widest lists, then with most moves.
+make_vectors.py --oracle DIR [--level L]: DIR holds that CRUSH as crush.py, calls.py, fill.py and gen.py; L is the last change of document 02 that
+counts. Writes crates/vectors/data/cases and crates/vectors/stdout. A case is a line of five numbers of eight digits, then the bytes of the map, of
+the calls and of the answer: the numbers are these three lengths, the groups and the width (0 and 0 of a refused map). The answer is a refusal; or
+each row, behind those of the groups below 64 a frame `12` with the tries (8), then what each call prints and the map that is left. A call is a line:
+an edit or, in the last cases, one that tools/states.py tells of. The second line of stdout is of change 7: of the edits of an acceptance that are
+taken, how many move more places than W for each group whose list holds the drive, in the table before the edit or, where the acceptance is raised,
+in the one after it; all their moves and all these ceilings; and the edit whose moves come nearest to its ceiling, with the number of its case, from
+1; of those that come as near the one with the widest lists, then with most moves.
 
 What is printed are the answers by kind of case; of the maps with a step 5, of those with a tree and of those with blocks over common drives how
 many there are and how many of them are filled and edited; the moves, by cause, whose cause stands in an inner walk, and those whose cause stands at
 a draw in a tree or in a straw bucket, or at one that finds none in one of the runs: of a 03 that of the place where following it ends; the numbers
 of children that trees have; of the maps with blocks over common drives those whose table change 5 alters, those with an inner walk that goes on
 below its item or meets held drives only, and the moves by a 03 whose drive an earlier block holds, in the run before the edit or in the one after
-it; the maps refused with 23, and the edits of a weight that were taken, by the number of buckets above the drive; and the edits of an acceptance
-that were taken, those that reach their ceiling, and those whose drive no group holds."""
+it; the maps refused with 23, and the edits of a weight that were taken, by the number of buckets above the drive; the edits of an acceptance
+that were taken, those that reach their ceiling, and those whose drive no group holds; and the calls beside edits with their numbers."""
 import argparse
 import collections
 import fractions
@@ -26,6 +27,7 @@ import sys
 
 import blocks
 import ceilings
+import states
 import weights
 
 CRATE = pathlib.Path(__file__).resolve().parent.parent / "crates" / "vectors"
@@ -39,6 +41,11 @@ BLOCKS = 200
 NESTED = {1: 6, 2: 30, 3: 30, 4: 24, 5: 20}
 UNTRUE, WAYS = 3, 16
 BESIDE = 5
+# and lists of calls with stores and returns: of tools/states.py, and of the other hand's generator
+CALLS = 125
+OPERATE = {"operate": 25, "operate-edges": 15}
+# the maps of all other cases are made as of another change where the one that counts last has no other form of a map and alters no list
+MADE = {7: 6, 8: 6}
 TRIED = 64
 # what the program has space for, in bytes
 MAP, EDITS, ANSWER = 65600, 65536, 393216
@@ -86,9 +93,10 @@ def ceiling_of(mp, before, after, device, acceptance):
     return ceiling, mp.W, "lowered" if acceptance < was else "raised" if acceptance > was else "unchanged"
 
 
-def answer_of(reference, crush, level, frames, edits, seen, taken, limited):
+def answer_of(reference, crush, calls, level, frames, lines, seen, taken, limited, called):
     """The answer, the groups and the width; of the moves seen, those of a refused edit are left out. For each edit of a weight that is
-    taken, the number of buckets above its drive is added to taken; for each of an acceptance, its moves, ceiling, width and way to limited."""
+    taken, the number of buckets above its drive is added to taken; for each of an acceptance, its moves, ceiling, width and way to limited; for each
+    other call its kind and its number to called."""
     mp = crush.load(frames, level)
     if isinstance(mp, int):
         return reference.refusal(mp), 0, 0
@@ -103,11 +111,16 @@ def answer_of(reference, crush, level, frames, edits, seen, taken, limited):
             places, tries = crush.rule(mp, g)
             assert places == table[g * w:(g + 1) * w]
             out.append(b"12%08x\n" % tries)
-    for line in edits:
+    desk = states.Desk(crush, calls, reference, level, mp, table)
+    for line in lines:
+        if states.is_call(line):
+            out.append(desk.line(line))
+            continue
         if crush.edit_form(line) is None:
             out.append(reference.refusal(18))
             continue
         before = len(seen)
+        mp, table = desk.map, desk.table
         edited = crush.edit(mp, table, line, reference.MOVES_BYTES, False)
         if edited.number:
             del seen[before:]
@@ -116,11 +129,12 @@ def answer_of(reference, crush, level, frames, edits, seen, taken, limited):
         kind, device, value = crush.edit_form(line)
         if kind == "21":
             limited.append((edited.count(), *ceiling_of(mp, table, edited.table, device, value)))
-        mp, table = edited.map, edited.table
+        desk.map, desk.table = edited.map, edited.table
         out.append(edited.bytes())
         if kind == "22":
             taken.append(weights.buckets_above(mp, device))
-    out.append(crush.map_bytes(mp))
+    called += desk.counts
+    out.append(crush.map_bytes(desk.map))
     return b"".join(out), groups, w
 
 
@@ -165,23 +179,38 @@ def weight_inputs(crush, gen):
     yield "crowded", weights.crowded(gen).bytes()
 
 
-def inputs(crush, gen, level, large):
+def call_inputs(crush, calls, gen, reference, level):
+    """Edge and bytes of lists of calls."""
+    for seed in range(CALLS):
+        yield states.list_of_calls(crush, calls, gen, reference, seed)
+    for kind, count in OPERATE.items():
+        for seed in range(count):
+            frames, lines = reference.split_input(gen.generate(seed, kind, level))
+            # the table is not told: it is compared at the end
+            yield kind, frames + b"".join(line + b"\n" for line in lines if line != b"2d")
+
+
+def inputs(crush, calls, gen, reference, level, large):
     """Kind, edge and bytes of each input; an edge whose inputs are large comes once."""
+    gen.Doc.level = made = MADE.get(level, level)
     for given in samples():
         yield "samples", "samples", given
     for given in orders():
         yield "orders", "orders", given
     for kind, seeds in SEEDS.items():
         for seed in range(seeds):
-            edge = edge_of(gen, level, seed) if kind == "edges" else kind
+            edge = edge_of(gen, made, seed) if kind == "edges" else kind
             if edge == kind or edge not in large:
-                yield kind, edge, gen.generate(seed, kind, level)
+                yield kind, edge, gen.generate(seed, kind, made)
     for seed in range(TREES):
         yield "trees", "trees", gen.e_tree(random.Random(f"tree:{seed}"))
     for seed in range(BLOCKS if level >= crush.ONE_PLACE else 0):
         yield "blocks", "blocks", block_input(crush, gen, seed)
     for edge, given in weight_inputs(crush, gen) if level >= crush.WRITTEN_WEIGHTS else ():
         yield "weights", edge, given
+    gen.Doc.level = level
+    for edge, given in call_inputs(crush, calls, gen, reference, level) if level >= crush.STATES else ():
+        yield "calls", edge, given
 
 
 def watch(crush):
@@ -254,19 +283,18 @@ def told_of_ceilings(limits):
 def main():
     parser = argparse.ArgumentParser(description=__doc__)
     parser.add_argument("--oracle", type=pathlib.Path, required=True)
-    # change 7 alters no list: its cases are those of change 6
-    parser.add_argument("--level", type=int, default=6)
+    parser.add_argument("--level", type=int, default=8)
     options = parser.parse_args()
     sys.path.insert(0, str(options.oracle))
+    import calls
     import crush
     import fill as reference
     import gen
 
     cases, answers, large, out = collections.Counter(), collections.defaultdict(collections.Counter), set(), []
-    through, inner, trees, draws, children, shared, across, deep = (collections.Counter() for _ in range(8))
-    seen, taken, limited, limits = watch(crush), [], [], []
-    gen.Doc.level = options.level
-    for kind, edge, given in inputs(crush, gen, options.level, large):
+    through, inner, trees, draws, children, shared, across, deep, lists = (collections.Counter() for _ in range(9))
+    seen, taken, limited, limits, called = watch(crush), [], [], [], []
+    for kind, edge, given in inputs(crush, calls, gen, reference, options.level, large):
         frames, edits = reference.split_input(given)
         rest = given[len(frames):]
         if len(frames) > MAP or len(rest) > EDITS or (len(given) > LARGE and edge in large):
@@ -274,7 +302,8 @@ def main():
         seen.clear()
         taken.clear()
         limited.clear()
-        answer, groups, w = answer_of(reference, crush, options.level, frames, edits, seen, taken, limited)
+        called.clear()
+        answer, groups, w = answer_of(reference, crush, calls, options.level, frames, edits, seen, taken, limited, called)
         if len(given) + len(answer) > LARGE:
             if edge in large:
                 continue
@@ -298,6 +327,7 @@ def main():
         deep.update(taken)
         across.update(holding for _, holding, *_ in seen if holding)
         limits += [(*limit, len(out)) for limit in limited]
+        lists.update(called)
     (CRATE / "data" / "cases").write_bytes(b"".join(out))
     (CRATE / "stdout").write_text(f"{len(out)} cases, 0 wrong\n" + told_of_ceilings(limits))
     for kind, count in cases.items():
@@ -312,6 +342,7 @@ def main():
     reached = collections.Counter(way for moves, ceiling, _, way, _ in limits if moves == ceiling > 0)
     unheld = sum(ceiling == 0 for _, ceiling, *_ in limits)
     print(f"acceptances: {dict(ways)}, reaching their ceiling {dict(reached)}, {unheld} of a drive that no group holds")
+    print(f"calls: {dict(sorted(lists.items()))}")
     print(f"moves: {dict(sorted(draws.items()))}")
     print(f"{len(out)} cases, {sum(map(len, out))} bytes")
 

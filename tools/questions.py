@@ -108,7 +108,7 @@ def blocks(table, load):
     return {
         "include/crush_place.h": (
             (" * Load's questions, in the order in which they are put, which is not that of their numbers, each to the whole map before the next:",
-             " * Some calls answer with these numbers, others with 14 for all of them; crush_load then says which it was.", questions(asked)),
+             " * Some calls answer with these numbers, others with 14 for all of them; crush_sizes_of then says which it was.", questions(asked)),
             (" * The calls' own questions, in the order in which they are put. Each call says which of them it puts, and what 16 wants room for:",
              " * G is the number of groups of the map, W the width of its lists.", questions(own)),
             (f"    /* {made} begin */", f"    /* {made} end */", cases(by_number))),

@@ -72,26 +72,32 @@ REFUSALS = {
          "select fewer"),
     13: ("the drives weigh more than 67,107,840 in all",
          "no map comes so far: report it"),
-    14: ("the map is not as load or edit leaves it: load would not take it",
-         "only in calls from C: load the map again, which tells the question answered no"),
+    14: ("load would not take the map, or the states lent are none of this map's: crush_sizes_of tells which",
+         "only in calls from C: ask crush_sizes_of, which tells the map's question answered no and leaves the states; where it answers 0 they "
+         "are at fault: take the copy kept of them, or empty them with crush_load"),
     15: ("the map has no such group",
          "only in calls from C: ask for a group below G, the number of the map's groups"),
     16: ("the space or the table lent is too small",
          "of program fill, groups x W is above 32,768: take program operate, or fewer groups or copies; in calls from C: lend more"),
-    17: ("the rule has a first-n select, and such a map takes no edit",
+    17: ("the rule has a first-n select, and such a map takes no edit and no return",
          "change the map's file, and compare the tables before and after"),
     18: ("the frame is no edit, the drive is not in the map, or the value is out of its range",
-         "mend the line; program operate takes the lines 2c and 2d too"),
+         "mend the line; program operate takes the lines 23, 24, 2c and 2d too"),
     19: ("the table is not what fill gives",
-         "only in calls from C, of edit and ceiling: fill it again"),
-    20: ("the edit makes more moves than the space lent has room for",
-         "the programs have room for 2,849: edit in smaller steps, or change the map's file and compare the tables before and after"),
+         "only in calls from C, of edit, return and ceiling: fill it again"),
+    20: ("the edit or return makes more moves than the space lent has room for",
+         "the programs have room for 2,849: edit in smaller steps, or change the map's file and compare the tables before and after; in calls "
+         "from C: lend more"),
     21: ("a step 5 has type 0",
          "give it the type of the buckets to go through, or make it a step 3"),
     22: ("a bucket has no child",
          "put in what it is to hold, at weight 0 if it is not there yet, or take the bucket out"),
     23: ("the weight written for a bucket is not the sum of its children's",
          "write the sums, from the lowest buckets on; an edit of a drive's weight brings them up to date by itself"),
+    24: ("no state is stored under the name",
+         "return to a name that was stored since the map was loaded"),
+    25: ("eight states are stored, none of them under the name",
+         "store under one of the eight names, which replaces its state, or load the map again, which empties all of them"),
 }
 
 # load's questions in the engine's order, without the notes behind them
@@ -126,6 +132,8 @@ CAUSES = {
     3: ("held by an earlier place in only one of the two runs",
         "in only one of the two runs an earlier place of the list holds the drive, or an earlier place of the same select the bucket; what changed "
         "that place is 01, 02 or 03 again, and at last 01 or 02"),
+    4: ("a return to a stored state",
+        "a return to a stored state: every drive has the weight and the acceptance again that it had when the state's name was last stored"),
 }
 
 
@@ -729,13 +737,13 @@ def move_of(at, line, given):
     if move.old == move.new:
         raise frame_trouble(at, line, "a move from a place to itself")
     if move.cause not in CAUSES:
-        raise frame_trouble(at, line, f"{move.cause:02x} is no cause: these are 01, 02 and 03")
+        raise frame_trouble(at, line, f"{move.cause:02x} is no cause: these are 01, 02, 03 and 04")
     return move
 
 
 def frames_of(data, given):
-    """What the programs print: (line number, kind, what it tells), kind 11 a row, 13 a move and 1f a refusal. The lines of maps and of edits, which
-    may stand between, and empty lines are passed over."""
+    """What the programs print: (line number, kind, what it tells), kind 11 a row, 13 a move and 1f a refusal. The lines of maps, edits, stores and
+    returns, which may stand between, and empty lines are passed over."""
     width = given.width if given else None
     for at, line in enumerate(lines_of(data), 1):
         odd = re.search(rb"[^0-9a-f]", line)
@@ -752,7 +760,7 @@ def frames_of(data, given):
             if len(line) != 4 or int(line[2:], 16) not in REFUSALS:
                 raise frame_trouble(at, line, "a refusal is 1f and the two digits of its number")
             yield at, "1f", int(line[2:], 16)
-        elif line and kind not in (b"00", b"01", b"02", b"03", b"04", b"05", b"21", b"22"):
+        elif line and kind not in (b"00", b"01", b"02", b"03", b"04", b"05", b"21", b"22", b"23", b"24"):
             raise frame_trouble(at, line, "the line is none that the programs print (11 a row, 13 a move, 1f a refusal)")
 
 
@@ -1119,9 +1127,9 @@ COMMANDS = (
      "part it is of the weight of its bucket and of its tree. A dead drive has acceptance or weight 0; a bucket of dead drives alone is marked DEAD. "
      "The rule follows in words."),
     (moves, "the moves on standard input in words",
-     "Tells what program fill prints, on standard input, in words: a line for each move, with the group, the place, the drive that it leaves and the "
+     "Tells what the programs print, on standard input, in words: a line for each move, with the group, the place, the drive that it leaves and the "
      "one that it goes to, each with the buckets above it, and why; and one for each refusal. Rows are passed over. MAP is the map before or after "
-     "the edits: no edit changes the tree."),
+     "the edits and returns: none of them changes the tree."),
     (rows, "the rows on standard input in words",
      "Tells the rows that program fill prints, on standard input, in words: a line for each group, with its drives by place; with MAP each drive has "
      "the buckets above it. Moves are passed over: the rows are told as they stand."),

@@ -120,9 +120,25 @@ group 278 (00000116), place 2: from drive 0020 in 0000/0001/0012 to drive 0029 i
 """
 ARCHIVE_END = """\
 line 1035: refused with 18 (1f12): the frame is no edit, the drive is not in the map, or the value is out of its range; mend the line; \
-program operate takes the lines 2c and 2d too
+program operate takes the lines 23, 24, 2c and 2d too
 10 moves in 10 groups, 10 of cause 01; 1 refusal
   cause 01: the edited drive passes its own acceptance test in only one of the two runs, before and after the edit
+"""
+# as operate prints them: a return, one to a name that is not stored, and a store of a ninth name
+RETURNED = b"""\
+1300000093020026002004
+1300000116020029ffff04
+1f18
+1f19
+"""
+RETURNED_TOLD = """\
+group 147 (00000093), place 2: from drive 0026 in 0000/0001/0012 to drive 0020 in 0000/0001/0012; cause 04, a return to a stored state
+group 278 (00000116), place 2: from drive 0029 in 0000/0001/0012 to a hole; cause 04, a return to a stored state
+line 3: refused with 24 (1f18): no state is stored under the name; return to a name that was stored since the map was loaded
+line 4: refused with 25 (1f19): eight states are stored, none of them under the name; store under one of the eight names, which replaces its \
+state, or load the map again, which empties all of them
+2 moves in 2 groups, 2 of cause 04; 2 refusals
+  cause 04: a return to a stored state: every drive has the weight and the acceptance again that it had when the state's name was last stored
 """
 NAMED = """\
 # the archive
@@ -176,6 +192,10 @@ def test_examples():
     dead = fill(archive + b"21002000000000\n21002000010001\n")
     status, out, _ = run("moves", ARCHIVE, given=dead)
     check("moves", (status, out[:len(ARCHIVE_MOVES)], out[-len(ARCHIVE_END):]), (0, ARCHIVE_MOVES, ARCHIVE_END))
+    good("moves of a return", run("moves", ARCHIVE, given=RETURNED), RETURNED_TOLD)
+    # between them may stand the lines that were given
+    good("moves of a return, with its lines", run("moves", ARCHIVE, given=b"230001\n" + RETURNED.replace(b"1f18", b"240001\n1f18", 1)),
+         RETURNED_TOLD.replace("line 4", "line 6").replace("line 3", "line 5"))
     names = kept("names", b"\xef\xbb\xbf" + NAMED.replace("\n", "\r\n").encode())
     for command in (("moves", ARCHIVE, "--names", names), ("--names", names, "moves", ARCHIVE)):
         check("moves with names", run(*command, given=dead)[1].split("\n")[0], NAMED_MOVE)
@@ -605,6 +625,8 @@ BAD_FRAMES = (
     ("2: place 4 is none of 1 to 3", ROW + b"1300000000040010001101"),
     ("2: a move from a place to itself", ROW + b"1300000000010010001001"),
     ("2: 07 is no cause", ROW + b"1300000000010010001107"),
+    ("2: 05 is no cause: these are 01, 02, 03 and 04", ROW + b"1300000000010010001105"),
+    ("2: a refusal is 1f", ROW + b"1f1a"),
     ("2: a refusal is 1f", ROW + b"1f"),
     ("2: a refusal is 1f", ROW + b"1fff"),
 )

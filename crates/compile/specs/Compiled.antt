@@ -52,27 +52,30 @@ pub record Weighs (m : Map) (plan own : List ℕ) : Type 0 where
 
 -- ---- what an edit leaves as it is
 
-module _ (m : Map) (c : Change) where
-  -- the children, the types, the kinds and the seed
-  pub put-planned : {plan : List ℕ} → Planned m plan → Planned (put m c) plan
-  put-planned k =
-      let a = k .arranged in
-      let t = k .typed in
-      let u = k .kinded in
-      record {
-        arranged =
-            record {
-              firsts = a .firsts;
-              counts = a .counts;
-              long = a .long;
-              within = a .within;
-              children = λ b. a .children b ∙ sym (put-children m c b);
-              ranged = a .ranged;
-            };
-        typed = record { size = t .size; at = λ b. t .at b ∙ sym (put-bucket-type m c b) };
-        kinded = record { size = u .size; at = λ b. u .at b ∙ sym (put-kind-number m c b) };
-        seeded = k .seeded;
-      }
+-- a map of the same children, types and kinds has the same plan
+pub same-planned : (m n : Map) {plan : List ℕ} → ((b : ℕ) → childrenOf n b ≡ childrenOf m b) → ((b : ℕ) → bucketType n b ≡ bucketType m b)
+    → ((b : ℕ) → kindNumber n b ≡ kindNumber m b) → Planned m plan → Planned n plan
+same-planned m n c y z k =
+    let a = k .arranged in
+    let t = k .typed in
+    let u = k .kinded in
+    record {
+      arranged =
+          record {
+            firsts = a .firsts;
+            counts = a .counts;
+            long = a .long;
+            within = a .within;
+            children = λ b. a .children b ∙ sym (c b);
+            ranged = a .ranged;
+          };
+      typed = record { size = t .size; at = λ b. t .at b ∙ sym (y b) };
+      kinded = record { size = u .size; at = λ b. u .at b ∙ sym (z b) };
+      seeded = k .seeded;
+    }
+
+pub put-planned : (m : Map) (c : Change) {plan : List ℕ} → Planned m plan → Planned (put m c) plan
+put-planned m c = same-planned m (put m c) (put-children m c) (put-bucket-type m c) (put-kind-number m c)
 
 -- ---- parts of a mapped list
 

@@ -4,5 +4,6 @@ pub mod Links
 pub mod Weighing
 pub mod Trees
 pub mod Compiled
+pub mod Returned
 pub mod Dead
 pub mod Living

@@ -13,7 +13,7 @@ use Rattle.definitions.specs.declared.Bucket.{Bucket}
 use Rattle.definitions.specs.declared.Step.{Step}
 use Rattle.definitions.specs.declared.Change.{Change}
 use Rattle.definitions.specs.declared.Change.the-variants.{Acceptance, Weight, Malformed}
-use Rattle.definitions.specs.Lists.{someOf}
+use Rattle.definitions.specs.Lists.{every, someOf}
 use Rattle.definitions.specs.Frames.{framesIn}
 use Rattle.definitions.specs.Map.{Map, mapOf}
 use Rattle.definitions.specs.View.{bucketType, kindNumber, acceptanceOf, deviceWeight}
@@ -81,46 +81,45 @@ module _ (m : Map) (d : Device) (k : ℕ) (h : k < length (m .devices)) (e : d �
 -- ---- the devices
 
 -- the weights of the devices from the k-th on
-abbrev pub WeightsFrom : Map → List ℕ → ℕ → Type 0
-WeightsFrom m ts k = From (λ (d : Device). d .number) (λ (d : Device). d .weight) (m .devices) 1024 ts k
+abbrev pub WeightsFrom : List Device → List ℕ → ℕ → Type 0
+WeightsFrom ds ts k = From (λ (d : Device). d .number) (λ (d : Device). d .weight) ds 1024 ts k
 
 -- their acceptances
-abbrev pub AcceptancesFrom : Map → List ℕ → ℕ → Type 0
-AcceptancesFrom m ts k = From (λ (d : Device). d .number) (λ (d : Device). d .acceptance) (m .devices) 1024 ts k
+abbrev pub AcceptancesFrom : List Device → List ℕ → ℕ → Type 0
+AcceptancesFrom ds ts k = From (λ (d : Device). d .number) (λ (d : Device). d .acceptance) ds 1024 ts k
 
-module _ (m : Map) (l : Loadable m) (k : ℕ) (d : Device) (p : 0 < k) (h : k ≤ length (m .devices)) (e : d ≡ getD (m .devices) (k - 1) noDevice) where
+module _ (ds : List Device) (r : every deviceRanged ds ≡ true) (k : ℕ) (d : Device) (p : 0 < k) (h : k ≤ length ds) (e : d ≡ getD ds (k - 1) noDevice) where
   -- a device's number has its place
   pub device-small : d .number < 1024
   device-small =
-      let r = every-at deviceRanged (m .devices) (k - 1) noDevice (ranged-is m (l .ranged) .devices) (omega arith) in
-      rw e (omega (arith, device-ranged (getD (m .devices) (k - 1) noDevice) r .number))
+      rw e (omega (arith, device-ranged (getD ds (k - 1) noDevice) (every-at deviceRanged ds (k - 1) noDevice r (omega arith)) .number))
 
   -- one weight more
-  pub weights-more : (ts : List ℕ) → WeightsFrom m ts k → WeightsFrom m (set ts (d .number) (d .weight)) (k - 1)
-  weights-more ts = from-more (λ d. d .number) (λ d. d .weight) (m .devices) 1024 ts k d noDevice p h e device-small
+  pub weights-more : (ts : List ℕ) → WeightsFrom ds ts k → WeightsFrom ds (set ts (d .number) (d .weight)) (k - 1)
+  weights-more ts = from-more (λ d. d .number) (λ d. d .weight) ds 1024 ts k d noDevice p h e device-small
 
   -- one acceptance more
-  pub acceptances-more : (ts : List ℕ) → AcceptancesFrom m ts k → AcceptancesFrom m (set ts (d .number) (d .acceptance)) (k - 1)
-  acceptances-more ts = from-more (λ d. d .number) (λ d. d .acceptance) (m .devices) 1024 ts k d noDevice p h e device-small
+  pub acceptances-more : (ts : List ℕ) → AcceptancesFrom ds ts k → AcceptancesFrom ds (set ts (d .number) (d .acceptance)) (k - 1)
+  acceptances-more ts = from-more (λ d. d .number) (λ d. d .acceptance) ds 1024 ts k d noDevice p h e device-small
 
-module _ (m : Map) (k : ℕ) where
+module _ (ds : List Device) (k : ℕ) where
   -- no weight yet
-  pub weights-none : k ≡ length (m .devices) → WeightsFrom m (replicate 1024 0) k
-  weights-none e = from-none (λ d. d .number) (λ d. d .weight) (m .devices) 1024 k e
+  pub weights-none : k ≡ length ds → WeightsFrom ds (replicate 1024 0) k
+  weights-none e = from-none (λ d. d .number) (λ d. d .weight) ds 1024 k e
 
   -- no acceptance yet
-  pub acceptances-none : k ≡ length (m .devices) → AcceptancesFrom m (replicate 1024 0) k
-  acceptances-none e = from-none (λ d. d .number) (λ d. d .acceptance) (m .devices) 1024 k e
+  pub acceptances-none : k ≡ length ds → AcceptancesFrom ds (replicate 1024 0) k
+  acceptances-none e = from-none (λ d. d .number) (λ d. d .acceptance) ds 1024 k e
 
   -- all weights
-  pub weights-all : (ts : List ℕ) → k ≤ 0 → WeightsFrom m ts k → Tabled ts 1024 (deviceWeight m)
+  pub weights-all : (ts : List ℕ) → k ≤ 0 → WeightsFrom ds ts k → (m : Map) → m .devices ≡ ds → Tabled ts 1024 (deviceWeight m)
   unfolding deviceWeight
-  weights-all ts h f = from-all (λ d. d .number) (λ d. d .weight) (m .devices) 1024 ts k h f
+  weights-all ts h f m e = rw e (from-all (λ d. d .number) (λ d. d .weight) ds 1024 ts k h f)
 
   -- all acceptances
-  pub acceptances-all : (ts : List ℕ) → k ≤ 0 → AcceptancesFrom m ts k → Tabled ts 1024 (acceptanceOf m)
+  pub acceptances-all : (ts : List ℕ) → k ≤ 0 → AcceptancesFrom ds ts k → (m : Map) → m .devices ≡ ds → Tabled ts 1024 (acceptanceOf m)
   unfolding acceptanceOf
-  acceptances-all ts h f = from-all (λ d. d .number) (λ d. d .acceptance) (m .devices) 1024 ts k h f
+  acceptances-all ts h f m e = rw e (from-all (λ d. d .number) (λ d. d .acceptance) ds 1024 ts k h f)
 
 -- how many devices there are after an edit
 pub edited-count : (t : List ℕ) (s : Shape) (c : Change) → s ≡ shapeOf (framesIn t) → s .devices ≡ length (put (mapOf t) c .devices)

@@ -1,10 +1,14 @@
-// The devices: their weights and acceptances, by device number, after an edit that is not yet written into the text.
+// The devices: their weights and acceptances, by device number, after an edit or a return that is not yet written into the text.
 ghost use mathlib.Core.Path.{_≡_};
-ghost use Prim.Native.Nat.{_<_};
-ghost use lib.ListN.{length, getD};
-ghost use Rattle.definitions.specs.Map.{mapOf};
+ghost use mathlib.Core.Bool.{true};
+ghost use Prim.Native.Nat.{ℕ, _+_, _*_, _<_, _≤_};
+ghost use lib.ListN.{length, getD, drop};
+ghost use Rattle.definitions.specs.Lists.{every};
+ghost use Rattle.definitions.specs.Map.{Map, mapOf};
 ghost use Rattle.definitions.specs.View.{acceptanceOf, deviceWeight};
+ghost use Rattle.definitions.specs.Load.{deviceRanged};
 ghost use Rattle.definitions.specs.Edit.{put};
+ghost use Rattle.definitions.specs.States.{drivesIn};
 ghost use Rattle.text.specs.RoundTrip.{Framed};
 ghost use Rattle.text.specs.Records.{noDevice};
 ghost use Rattle.hierarchy.specs.Tables.{Tabled};
@@ -60,6 +64,43 @@ pub fn devices_of(t: &[u8], s: Shape, c: Change) -> Devices
     while 0 < k {
         let at = k - 1;
         let d = device_with(t, at, c);
+        let i = d.number as usize;
+        weights[i] = d.weight;
+        acceptances[i] = d.acceptance;
+        k = at;
+    }
+    Devices {
+        weights: weights,
+        acceptances: acceptances,
+    }
+}
+
+// Drive k of those that words spell from word a on.
+fn drive_in(states: &[u32], a: usize, k: usize) -> Device
+    requires { ⌜ (a + 3 * k + 3 ≤ length (now states)) × (length (now states) ≤ 24586) ⌝ }
+    ensures { λ r. ⌜ ((n : ℕ) → k < n → r ≡ getD (drivesIn n (drop a (now (states .entry)))) k noDevice) ⌝ }
+{
+    let w = a + 3 * k;
+    Device {
+        number: states[w],
+        weight: states[w + 1],
+        acceptance: states[w + 2],
+    }
+}
+
+// The same for a map whose devices are the n drives from word a on.
+pub fn devices_in(states: &[u32], a: usize, n: usize) -> Devices
+    requires { ⌜ (a + 3 * n ≤ length (now states)) × (length (now states) ≤ 24586) ⌝ }
+    requires { ⌜ every deviceRanged (drivesIn n (drop a (now states))) ≡ true ⌝ }
+    ensures { λ r. ⌜ ((m : Map) → m .devices ≡ drivesIn n (drop a (now (states .entry)))
+        → Tabled (r .weights) 1024 (deviceWeight m) × Tabled (r .acceptances) 1024 (acceptanceOf m)) ⌝ }
+{
+    let mut weights = [0u32; 1024];
+    let mut acceptances = [0u32; 1024];
+    let mut k = n;
+    while 0 < k {
+        let at = k - 1;
+        let d = drive_in(states, a, at);
         let i = d.number as usize;
         weights[i] = d.weight;
         acceptances[i] = d.acceptance;

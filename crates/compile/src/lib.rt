@@ -1,13 +1,14 @@
 // A map's text made into flat arrays, once per call.
 ghost use mathlib.Core.Path.{_≡_};
 ghost use mathlib.Core.Bool.{true};
-ghost use Prim.Native.Nat.{ℕ, _≤_};
-ghost use lib.ListN.{length};
+ghost use Prim.Native.Nat.{ℕ, _+_, _*_, _≤_};
+ghost use lib.ListN.{length, drop};
 ghost use Rattle.definitions.specs.Frames.{framesIn};
 ghost use Rattle.definitions.specs.Map.{Map, mapOf, actionsOf};
 ghost use Rattle.definitions.specs.View.{weightsOf, acceptanceOf, viewOf};
 ghost use Rattle.definitions.specs.Load.{loadNumber};
 ghost use Rattle.definitions.specs.Edit.{put};
+ghost use Rattle.definitions.specs.States.{drivesIn, putState};
 ghost use Rattle.laws.specs.Loadable.{Loadable};
 ghost use Rattle.text.specs.Shape.{shapeOf};
 ghost use Rattle.hierarchy.specs.Arrays.{firstsIn, countsIn, partAt, viewIn, livesIn, Sound, Flagged, actionsIn};
@@ -114,6 +115,27 @@ pub struct Weighed {
     pub loads: [u32; 256],
 }
 
+// Both, of whichever map this is the plan and these the weights and the acceptances of the devices, by number.
+fn weigh_by<'a>(
+    plan: &'a Plan,
+    own: &'a [u32; 1024],
+    acceptance: &'a [u32; 1024],
+    through: bool,
+) -> Weighed
+    requires { ⌜ ((m : Map) × Weighs m (now plan) (now own) × Tabled (now acceptance) 1024 (acceptanceOf m)) ⌝ }
+    ensures { λ r. ⌜ ((m : Map) → Weighs m (now (plan .entry)) (now (own .entry)) → Tabled (now (acceptance .entry)) 1024 (acceptanceOf m)
+        → (viewIn (now (plan .entry)) (r .values) ≡ viewOf m) × Tabled (r .loads) 256 (bucketWeight m)
+        × Sound (now (plan .entry)) × Flagged (now (plan .entry)) (r .values)) ⌝ }
+{
+    let loads = bucket_weights(plan, own);
+    let lives = live_weights(plan, own, acceptance, through);
+    let values = values_of(plan, own, &loads, acceptance, &lives);
+    Weighed {
+        values: values,
+        loads: loads,
+    }
+}
+
 // What an edit changes: the weights and the acceptances, beside the plan, which it leaves. The edit need not be written into the text yet;
 // Malformed is no edit. `through` says whether the rule has a select through.
 pub fn weigh<'a, 'b>(t: &'a [u8], s: Shape, c: Change, plan: &'b Plan, through: bool) -> Weighed
@@ -127,13 +149,28 @@ pub fn weigh<'a, 'b>(t: &'a [u8], s: Shape, c: Change, plan: &'b Plan, through: 
     let devices = devices::devices_of(t, s, c);
     let own = devices.weights;
     let acceptance = devices.acceptances;
-    let loads = bucket_weights(plan, &own);
-    let lives = live_weights(plan, &own, &acceptance, through);
-    let values = values_of(plan, &own, &loads, &acceptance, &lives);
-    Weighed {
-        values: values,
-        loads: loads,
-    }
+    weigh_by(plan, &own, &acceptance, through)
+}
+
+// The same for a return, of whichever map this is the plan: its devices get the values of the n drives of a state, from word a on.
+pub fn weigh_state<'a, 'b>(
+    states: &'a [u32],
+    a: usize,
+    n: usize,
+    plan: &'b Plan,
+    through: bool,
+) -> Weighed
+    requires { ⌜ (a + 3 * n ≤ length (now states)) × (length (now states) ≤ 24586) ⌝ }
+    requires { ⌜ ((m : Map) × Planned m (now plan) × Loadable (putState m (drivesIn n (drop a (now states))))) ⌝ }
+    ensures { λ r. ⌜ ((m : Map) → Planned m (now (plan .entry)) → Loadable (putState m (drivesIn n (drop a (now (states .entry)))))
+        → (viewIn (now (plan .entry)) (r .values) ≡ viewOf (putState m (drivesIn n (drop a (now (states .entry))))))
+        × Tabled (r .loads) 256 (bucketWeight (putState m (drivesIn n (drop a (now (states .entry))))))
+        × Sound (now (plan .entry)) × Flagged (now (plan .entry)) (r .values)) ⌝ }
+{
+    let devices = devices::devices_in(states, a, n);
+    let own = devices.weights;
+    let acceptance = devices.acceptances;
+    weigh_by(plan, &own, &acceptance, through)
 }
 
 // The arrays of the map as an edit leaves it.

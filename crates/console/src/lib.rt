@@ -8,8 +8,8 @@ ghost use mathlib.Core.Bool.{true};
 ghost use mathlib.Core.List.{List, _++_};
 ghost use Prim.Native.Nat.{ℕ, _+_, _*_, _<_, _≤_};
 ghost use lib.ListN.{length, take};
-ghost use Rattle.report.specs.Edits.{session, bytesOf};
-ghost use Rattle.report.specs.Kept.{Keeps};
+ghost use Rattle.report.specs.Edits.{siteOf, statesAtStart, session, bytesOf};
+ghost use Rattle.report.specs.Kept.{Short, Keeps};
 ghost use Rattle.report.specs.Reads.{Led, Ended};
 ghost use Rattle.report.specs.Says.{Within};
 ghost use Rattle.console.specs.Gathering.{Gathers};
@@ -103,9 +103,12 @@ fn print_rows(p: Program, table: &[u16], groups: u32, w: usize) -> bool
     print_by_line(p, table, groups, w, &mut space[..n])
 }
 
-// Loads the map, fills the table and prints it; answers whether lines follow. "A refused load or fill prints that frame alone."
-fn place_all(p: Program, map: &[u8], table: &mut [u16]) -> bool {
-    let sizes = engine::load::sizes_of(map);
+// Loads the map, which empties the states, fills the table and prints it; answers whether lines follow. "A refused load or fill prints that frame
+// alone."
+fn place_all(p: Program, map: &[u8], table: &mut [u16], states: &mut [u32; 24586]) -> bool
+    ensures { λ _. ⌜ now (states .exit) ≡ statesAtStart (now (map .entry)) (now (states .entry)) ⌝ }
+{
+    let sizes = engine::load::load(map, states);
     if sizes.number != 0 {
         print_refusal(p, sizes.number);
         return false;
@@ -190,18 +193,19 @@ fn take_bytes(
     p: Program,
     map: &mut [u8],
     table: &mut [u16],
+    states: &mut [u32; 24586],
     line: Line,
     read: &[u8],
     space: &mut [u8],
 ) -> Taken
-    requires { ⌜ (5 ≤ length (now space)) × (line .count ≤ 15) ⌝ }
-    ensures { λ r. ⌜ (r .line .count ≤ 15) × ((xs : List ℕ) → Keeps line xs → r .ok ≡ true → Led (r .line) (now (map .exit)) (now (table .exit))
-        (bytesOf p (now (space .entry)) (session (now (map .entry)) (now (table .entry)) xs) (now (read .entry)))) ⌝ }
+    requires { ⌜ (5 ≤ length (now space)) × Short line ⌝ }
+    ensures { λ r. ⌜ Short (r .line) × ((xs : List ℕ) → Keeps line xs → r .ok ≡ true → Led (r .line) (siteOf (now (map .exit)) (now (table .exit)) (now (states .exit)))
+        (bytesOf p (now (space .entry)) (session (siteOf (now (map .entry)) (now (table .entry)) (now (states .entry))) xs) (now (read .entry)))) ⌝ }
 {
     let mut l = line;
     let mut i: usize = 0;
     while i < read.len() {
-        let run = edits::on_bytes(p, map, table, l, &read[i..], space);
+        let run = edits::on_bytes(p, map, table, states, l, &read[i..], space);
         let turn = run.turn;
         l = turn.line;
         if !print_said(p, turn.said, table, space) {
@@ -218,13 +222,14 @@ fn take_input(
     p: Program,
     map: &mut [u8],
     table: &mut [u16],
+    states: &mut [u32; 24586],
     line: Line,
     buffer: &mut [u8],
     space: &mut [u8],
 ) -> Taken
-    requires { ⌜ (5 ≤ length (now space)) × (line .count ≤ 15) ⌝ }
-    ensures { λ r. ⌜ (r .line .count ≤ 15) × ((xs : List ℕ) → Keeps line xs → r .ok ≡ true → (bs : List ℕ) × Led (r .line) (now (map .exit)) (now (table .exit))
-        (bytesOf p (now (space .entry)) (session (now (map .entry)) (now (table .entry)) xs) bs)) ⌝ }
+    requires { ⌜ (5 ≤ length (now space)) × Short line ⌝ }
+    ensures { λ r. ⌜ Short (r .line) × ((xs : List ℕ) → Keeps line xs → r .ok ≡ true → (bs : List ℕ) × Led (r .line) (siteOf (now (map .exit)) (now (table .exit)) (now (states .exit)))
+        (bytesOf p (now (space .entry)) (session (siteOf (now (map .entry)) (now (table .entry)) (now (states .entry))) xs) bs)) ⌝ }
 {
     let mut l = line;
     let mut turns = u64::MAX;
@@ -237,7 +242,7 @@ fn take_input(
                 ok: !got.failed,
             };
         }
-        let taken = take_bytes(p, map, table, l, &buffer[..n], space);
+        let taken = take_bytes(p, map, table, states, l, &buffer[..n], space);
         if !taken.ok {
             return taken;
         }
@@ -253,25 +258,26 @@ fn take_lines(
     p: Program,
     map: &mut [u8],
     table: &mut [u16],
+    states: &mut [u32; 24586],
     buffer: &mut [u8],
     n: usize,
     space: &mut [u8],
 ) -> bool
     requires { ⌜ (n ≤ length (now buffer)) × (5 ≤ length (now space)) ⌝ }
-    ensures { λ r. ⌜ (r ≡ true → (bs : List ℕ) × Ended p (now (space .entry)) (now (map .entry)) (now (table .entry)) (take n (now (buffer .entry)) ++ bs)
-        (now (map .exit)) (now (table .exit))) ⌝ }
+    ensures { λ r. ⌜ (r ≡ true → (bs : List ℕ) × Ended p (now (space .entry)) (siteOf (now (map .entry)) (now (table .entry)) (now (states .entry))) (take n (now (buffer .entry)) ++ bs)
+        (siteOf (now (map .exit)) (now (table .exit)) (now (states .exit)))) ⌝ }
 {
-    let first = take_bytes(p, map, table, edits::no_line(), &buffer[..n], space);
+    let first = take_bytes(p, map, table, states, edits::no_line(), &buffer[..n], space);
     if !first.ok {
         return false;
     }
     let begun = first.line;
-    let last = take_input(p, map, table, begun, buffer, space);
+    let last = take_input(p, map, table, states, begun, buffer, space);
     if !last.ok {
         return false;
     }
     let unended = last.line;
-    let said = edits::on_end(p, map, table, unended, space);
+    let said = edits::on_end(p, map, table, states, unended, space);
     print_said(p, said, table, space)
 }
 
@@ -284,11 +290,20 @@ pub fn run(p: Program, table: &mut [u16]) {
     }
     let m = g.map;
     let n = g.read;
-    if !place_all(p, &input[..m], table) {
+    let mut states = [0u32; 24586];
+    if !place_all(p, &input[..m], table, &mut states) {
         return;
     }
     let mut buffer = input_space();
     let k = bytes::copy(&input[m..n], &mut buffer);
     let mut space = moves_space();
-    take_lines(p, &mut input[..m], table, &mut buffer, k, &mut space);
+    take_lines(
+        p,
+        &mut input[..m],
+        table,
+        &mut states,
+        &mut buffer,
+        k,
+        &mut space,
+    );
 }

@@ -11,11 +11,12 @@ ghost use Rattle.definitions.specs.Rule.{widthOf, placedOf};
 ghost use Rattle.definitions.specs.Load.{loadNumber};
 ghost use Rattle.text.specs.Shape.{shapeOf};
 ghost use Rattle.definitions.specs.Writing.{twoBytes};
-ghost use Rattle.definitions.specs.Calls.{sizesOf, daemonOf, fillOf, editOf, ceilingOf, writeOf, dayOf, drivesOf};
-ghost use Rattle.engine.specs.Answers.{sizesAnswer, fillAnswer, editAnswer, ceilingAnswer, writeAnswer, dayAnswer};
+ghost use Rattle.definitions.specs.Calls.{sizesOf, loadOf, daemonOf, fillOf, editOf, storeOf, returnOf, ceilingOf, writeOf, dayOf, drivesOf};
+ghost use Rattle.engine.specs.Answers.{sizesAnswer, loadAnswer, fillAnswer, editAnswer, storeAnswer, ceilingAnswer, writeAnswer, dayAnswer};
 ghost use Rattle.crush_place.specs.Answers.{daemonAnswer, drivesAnswer};
 ghost use Rattle.crush_place.specs.Version.{version};
 use blocks::widths;
+use engine::back;
 use engine::day;
 use engine::day::Day;
 use engine::edit;
@@ -28,6 +29,7 @@ use engine::load;
 use engine::load::Sizes;
 use engine::place;
 use engine::place::Placing;
+use engine::store;
 use engine::write;
 use engine::write::Written;
 use frames::records;
@@ -141,10 +143,18 @@ pub extern "C" fn crush_day_drives(map: &[u8], show: u32, day: u32, out: &mut [u
 
 // Whether a map loads, and how large its table is.
 #[no_mangle]
-pub extern "C" fn crush_load(map: &[u8]) -> Sizes
+pub extern "C" fn crush_sizes_of(map: &[u8]) -> Sizes
     ensures { λ r. ⌜ sizesAnswer r ≡ sizesOf (now (map .entry)) ⌝ }
 {
     load::sizes_of(map)
+}
+
+// The same, and where the map loads no state is stored any more.
+#[no_mangle]
+pub extern "C" fn crush_load(map: &[u8], states: &mut [u32; 24586]) -> Sizes
+    ensures { λ r. ⌜ loadAnswer r (now (states .exit)) ≡ loadOf (now (map .entry)) (now (states .entry)) ⌝ }
+{
+    load::load(map, states)
 }
 
 // The table of a map.
@@ -167,6 +177,29 @@ pub extern "C" fn crush_edit(
         ≡ editOf (now (map .entry)) (now (table .entry)) (now (frame .entry)) (now (space .entry)) ⌝ }
 {
     edit::edit(map, table, frame, space)
+}
+
+// The map's drives stored under a name.
+#[no_mangle]
+pub extern "C" fn crush_store(map: &[u8], states: &mut [u32; 24586], name: u16) -> u32
+    ensures { λ r. ⌜ storeAnswer r (now (states .exit)) ≡ storeOf (now (map .entry)) (now (states .entry)) name ⌝ }
+{
+    store::store(map, states, name)
+}
+
+// A return to the state of a name, into the map, the table and the space lent for its moves.
+#[no_mangle]
+pub extern "C" fn crush_return(
+    map: &mut [u8],
+    table: &mut [u16],
+    states: &[u32; 24586],
+    name: u16,
+    space: &mut [u8],
+) -> Edited
+    ensures { λ r. ⌜ editAnswer r (now (map .exit)) (now (table .exit)) (now (space .exit))
+        ≡ returnOf (now (map .entry)) (now (table .entry)) (now (states .entry)) name (now (space .entry)) ⌝ }
+{
+    back::return_to(map, table, states, name, space)
 }
 
 // A map's frames into the lent space.
@@ -198,5 +231,5 @@ pub extern "C" fn crush_ceiling(map: &[u8], table: &[u16], device: u32) -> Limit
 pub extern "C" fn crush_version() -> u32
     ensures { λ r. ⌜ r ≡ version ⌝ }
 {
-    10700
+    10800
 }

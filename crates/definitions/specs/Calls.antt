@@ -22,12 +22,17 @@ use Rattle.definitions.specs.Edit.{changeOf, put, movesIn, movesBytes}
 use Rattle.definitions.specs.Ceiling.{holdersIn}
 use Rattle.definitions.specs.Writing.{mapText, dayGroup, twoBytes}
 use Rattle.definitions.specs.Load.{hasDevice, loadNumber}
+use Rattle.definitions.specs.States.{NamedState, wordsOf, statesOf, stated, named, roomForName, stored, devicesNamed, putState, returnMoves}
 
 -- ---- questions 14 to 20
 
 -- 14. "Map as load or edit leaves it?"
 unfoldable pub whole : List ℕ → Bool
 whole frames = eqb (loadNumber frames) 0
+
+-- the same where states are lent too: "question 14 covers them"
+unfoldable pub wholeWith : List ℕ → List ℕ → Bool
+wholeWith frames states = whole frames && stated (mapOf frames) states
 
 -- 15. "Group below G?"
 unfoldable pub groupBelow : Map → ℕ → Bool
@@ -73,12 +78,7 @@ fresh m runs table = same (take (m .groups * widthOf m) table) (tableIn runs)
 unfoldable pub roomForMoves : List Move → List ℕ → Bool
 roomForMoves moves space = leb (23 * length moves) (length space)
 
--- ---- load: the frames are only read
-
-unfoldable pub loadOf : List ℕ → ℕ
-loadOf frames = loadNumber frames
-
--- ---- the sizes of a map, asked with load: by its groups and its width a caller knows how large a table he has to lend
+-- ---- the sizes of a map: by its groups and its width a caller knows how large a table he has to lend
 
 pub record SizesAnswer : Type 0 where
   pub number : ℕ
@@ -92,6 +92,21 @@ sizesBy m (suc k) = record { number = suc k; groups = 0; places = 0 }
 
 unfoldable pub sizesOf : List ℕ → SizesAnswer
 sizesOf frames = sizesBy (mapOf frames) (loadNumber frames)
+
+-- ---- load: the frames are only read, and its sizes told. "Loading another map empties the states"
+
+pub record LoadAnswer : Type 0 where
+  pub number : ℕ
+  pub groups : ℕ
+  pub places : ℕ
+  pub states : List ℕ
+
+unfoldable pub loadBy : Map → List ℕ → ℕ → LoadAnswer
+loadBy m states zero = record { number = 0; groups = m .groups; places = widthOf m; states = over (wordsOf []) states }
+loadBy m states (suc k) = record { number = suc k; groups = 0; places = 0; states = states }
+
+unfoldable pub loadOf : List ℕ → List ℕ → LoadAnswer
+loadOf frames states = loadBy (mapOf frames) states (loadNumber frames)
 
 -- ---- place
 
@@ -227,6 +242,88 @@ editAnswer e = editBy e (editNumber e)
 
 unfoldable pub editOf : List ℕ → List ℕ → List ℕ → List ℕ → EditAnswer
 editOf frames table edit space = editAnswer (caseOf frames table edit space)
+
+-- ---- store (document 02, change 8): "A store is asked 14, then answers 25 for a ninth name"
+
+pub record StoreAnswer : Type 0 where
+  pub number : ℕ
+  pub states : List ℕ
+
+unfoldable pub storeNumber : List ℕ → List ℕ → ℕ → ℕ
+storeNumber frames states name =
+    firstNo ((14, wholeWith frames states) ∷ (25, roomForName name (statesOf states)) ∷ [])
+
+unfoldable pub storeBy : Map → List ℕ → ℕ → ℕ → StoreAnswer
+storeBy m states name zero = record { number = 0; states = stored m name states }
+storeBy m states name (suc k) = record { number = suc k; states = states }
+
+unfoldable pub storeOf : List ℕ → List ℕ → ℕ → StoreAnswer
+storeOf frames states name = storeBy (mapOf frames) states name (storeNumber frames states name)
+
+-- ---- return: "a return is asked what an edit is, with 24 for a name not stored in place of 18". It answers what an edit does, and only reads
+-- the states.
+
+pub record ReturnCase : Type 0 where
+  pub frames : List ℕ
+  pub table : List ℕ
+  pub states : List ℕ
+  pub name : ℕ
+  pub space : List ℕ
+  pub kept : List NamedState
+  pub before : Map
+  pub after : Map
+  pub olds : List Placed
+  pub news : List Placed
+  pub moves : List Move
+
+unfoldable pub returnCase : List ℕ → List ℕ → List ℕ → ℕ → List ℕ → ReturnCase
+returnCase fs t ws n s =
+    let m = mapOf fs in
+    let k = statesOf ws in
+    let m′ = putState m (devicesNamed n k) in
+    let o = runsOf m in
+    let p = runsOf m′ in
+    record {
+      frames = fs;
+      table = t;
+      states = ws;
+      name = n;
+      space = s;
+      kept = k;
+      before = m;
+      after = m′;
+      olds = o;
+      news = p;
+      moves = returnMoves (movesIn (widthOf m) o p);
+    }
+
+unfoldable pub returnNumber : ReturnCase → ℕ
+returnNumber e =
+    firstNo
+    ((14, wholeWith (e .frames) (e .states))
+    ∷ (16, roomForTable (e .before) (e .table))
+    ∷ (17, independent (e .before))
+    ∷ (24, named (e .name) (e .kept))
+    ∷ (19, fresh (e .before) (e .olds) (e .table))
+    ∷ (20, roomForMoves (e .moves) (e .space))
+    ∷ [])
+
+unfoldable pub returnBy : ReturnCase → ℕ → EditAnswer
+returnBy e zero =
+    record {
+      number = 0;
+      moves = length (e .moves);
+      frames = mapText (e .after);
+      table = over (tableIn (e .news)) (e .table);
+      space = over (movesBytes (e .moves)) (e .space);
+    }
+returnBy e (suc k) = record { number = suc k; moves = 0; frames = e .frames; table = e .table; space = e .space }
+
+unfoldable pub returnAnswer : ReturnCase → EditAnswer
+returnAnswer e = returnBy e (returnNumber e)
+
+unfoldable pub returnOf : List ℕ → List ℕ → List ℕ → ℕ → List ℕ → EditAnswer
+returnOf frames table states name space = returnAnswer (returnCase frames table states name space)
 
 -- ---- the ceiling: what an edit of a device's acceptance moves at most (document 02, change 7)
 

@@ -14,5 +14,6 @@ pub mod Edit
 pub mod Ceiling
 pub mod Writing
 pub mod Load
+pub mod States
 pub mod Calls
 pub mod Open

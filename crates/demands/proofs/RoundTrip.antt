@@ -10,7 +10,7 @@ use Rattle.definitions.specs.Map.{mapOf}
 use Rattle.definitions.specs.Load.{loadNumber}
 use Rattle.definitions.specs.Calls.{WriteAnswer, writeOf}
 use Rattle.engine.specs.Calls.{write-14, write-16, write-0}
-use Rattle.demands.proofs.Contracts.{LoadCall, loadFrames, load-answers, WriteCall, writeFrames, writeSpace, writeAnswered}
+use Rattle.demands.proofs.Contracts.{LoadCall, loadFrames, loadAnswered, load-answers, WriteCall, writeFrames, writeSpace, writeAnswered}
 
 -- the bytes that a call of write wrote: as many at the front of its space as it answers
 abbrev pub writtenBytes : WriteCall → List ℕ
@@ -45,7 +45,7 @@ module _ (w : WriteCall) where
       go (no g) d = absurd (omega (arith, ap (λ (a : WriteAnswer). a .number) (write-answers ∙ write-14 f s g), z))
 
 -- LOAD THEN WRITE: load took these frames, and write was lent them, and space for them; it answers 0, and what it wrote are these bytes
-pub load-write : (l : LoadCall) (w : WriteCall) → l .result ≡ 0 → writeFrames w ≡ loadFrames l → length (loadFrames l) ≤ length (writeSpace w)
+pub load-write : (l : LoadCall) (w : WriteCall) → loadAnswered l .number ≡ 0 → writeFrames w ≡ loadFrames l → length (loadFrames l) ≤ length (writeSpace w)
     → (writeAnswered w .number ≡ 0) × (writtenBytes w ≡ loadFrames l)
 load-write l w r e h =
     let (z, b) = roomy w (ap loadNumber e ∙ sym (load-answers l) ∙ r) (omega (arith, ap length e, h)) in
@@ -53,7 +53,7 @@ load-write l w r e h =
 
 -- WRITE THEN LOAD: write was not refused, and load was lent what it wrote; load takes it, and its map is the one that was written
 pub write-load : (w : WriteCall) (l : LoadCall) → writeAnswered w .number ≡ 0 → loadFrames l ≡ writtenBytes w
-    → (l .result ≡ 0) × (mapOf (loadFrames l) ≡ mapOf (writeFrames w))
+    → (loadAnswered l .number ≡ 0) × (mapOf (loadFrames l) ≡ mapOf (writeFrames w))
 write-load w l z e =
     let (n, b) = written w z in
     (load-answers l ∙ ap loadNumber (e ∙ b) ∙ n, ap mapOf (e ∙ b))

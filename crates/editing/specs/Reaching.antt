@@ -36,27 +36,30 @@ abbrev pub Reaches : List ℕ → List ℕ → List ℕ → Rule → ℕ → ℕ
 Reaches plan old new rule groups w c =
     (d v : ℕ) → c ≡ Acceptance d v → (d < 1024) × ((g : ℕ) → g < groups → Within (reachOf d (getD old d 0) v) plan old new rule w g)
 
-module _ (m : Map) (d v k w : ℕ) (p : Pair) (P : Paired m (Acceptance d v) p) (A : Asked m (Acceptance d v) k w) where
+module _ (m : Map) (d v k w : ℕ) (p : Pair) (P : Paired m (put m (Acceptance d v)) p) (A : Asked m (put m (Acceptance d v)) k w)
+    (fit : fits m (Acceptance d v) ≡ true) where
   small : d < 1024
   unfolding fits
-  small = device-number m (A .loadable) d (both (hasDevice m d) (leb v 65536) (A .fit) .0)
+  small = device-number m (A .loadable) d (both (hasDevice m d) (leb v 65536) fit .0)
 
   old-is : getD (p .old) d 0 ≡ acceptanceOf m d
   unfolding viewOf
   old-is = sym (section-front 1024 d (p .old) small) ∙ ap (λ (o : View). o .acceptance d) (P .old .view)
 
   B : Between (p .plan) (p .old) (p .new) (p .rule) k w m (put m (Acceptance d v))
-  B = between m (Acceptance d v) k w p P A
+  B = between m (put m (Acceptance d v)) k w p P A
 
   within : (g : ℕ) → g < k → Within (reachOf d (getD (p .old) d 0) v) (p .plan) (p .old) (p .new) (p .rule) w g
   within = go (leb v (getD (p .old) d 0)) refl
     where
       go : (b : Bool) → leb v (getD (p .old) d 0) ≡ b → (g : ℕ) → g < k → Within (cond b (Before d) (After d)) (p .plan) (p .old) (p .new) (p .rule) w g
-      go true e = held-before m _ B d (lowered m d v (A .loadable) (A .only) (A .fit) (omega (arith, leb-true v (getD (p .old) d 0) e, old-is)))
-      go false e = held-after m _ B d (raised m d v (A .loadable) (A .only) (A .fit) (omega (arith, leb-false v (getD (p .old) d 0) e, old-is)))
+      go true e = held-before m _ B d (lowered m d v (A .loadable) (A .only) fit (omega (arith, leb-true v (getD (p .old) d 0) e, old-is)))
+      go false e = held-after m _ B d (raised m d v (A .loadable) (A .only) fit (omega (arith, leb-false v (getD (p .old) d 0) e, old-is)))
 
-pub reaches : (m : Map) (c : Change) (k w : ℕ) (p : Pair) → Paired m c p → Asked m c k w → Reaches (p .plan) (p .old) (p .new) (p .rule) k w c
-reaches m c k w p P A d v e =
-    let P′ = subst (λ (x : Change). Paired m x p) e P in
-    let A′ = subst (λ (x : Change). Asked m x k w) e A in
-    (small m d v k w p P′ A′, within m d v k w p P′ A′)
+pub reaches : (m : Map) (c : Change) (k w : ℕ) (p : Pair) → Paired m (put m c) p → Asked m (put m c) k w → fits m c ≡ true
+    → Reaches (p .plan) (p .old) (p .new) (p .rule) k w c
+reaches m c k w p P A f d v e =
+    let P′ = subst (λ (x : Change). Paired m (put m x) p) e P in
+    let A′ = subst (λ (x : Change). Asked m (put m x) k w) e A in
+    let f′ = subst (λ (x : Change). fits m x ≡ true) e f in
+    (small m d v k w p P′ A′ f′, within m d v k w p P′ A′ f′)

@@ -83,7 +83,7 @@ pub fn put_value<'a, 'b>(map: &'a mut [u8], s: Shape, k: usize, c: Change, loads
 // The arrays of the map as it is and as an edit leaves it.
 pub fn pair_of(map: &[u8], s: Shape, c: Change) -> Pair
     requires { ⌜ (loadNumber (now map) ≡ 0) × (s ≡ shapeOf (framesIn (now map))) × (fits (mapOf (now map)) c ≡ true) ⌝ }
-    ensures { λ r. ⌜ Paired (mapOf (now (map .entry))) c r ⌝ }
+    ensures { λ r. ⌜ Paired (mapOf (now (map .entry))) (put (mapOf (now (map .entry))) c) r ⌝ }
 {
     let plan = compile::plan_of(map, s);
     let rule = steps::rule_of(map, s);

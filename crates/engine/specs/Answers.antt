@@ -2,7 +2,7 @@
 -- write.
 use mathlib.Core.List.{List}
 use Prim.Native.Nat.{ℕ}
-use Rattle.definitions.specs.Calls.{SizesAnswer, PlaceAnswer, FillAnswer, EditAnswer, CeilingAnswer, WriteAnswer, DayAnswer}
+use Rattle.definitions.specs.Calls.{SizesAnswer, LoadAnswer, PlaceAnswer, FillAnswer, EditAnswer, StoreAnswer, CeilingAnswer, WriteAnswer, DayAnswer}
 use Rattle.engine.specs.declared.load.Sizes.{Sizes}
 use Rattle.engine.specs.declared.place.Placing.{Placing}
 use Rattle.engine.specs.declared.fill.Filled.{Filled}
@@ -13,6 +13,9 @@ use Rattle.engine.specs.declared.day.Day.{Day}
 
 abbrev pub sizesAnswer : Sizes → SizesAnswer
 sizesAnswer r = record { number = r .number; groups = r .groups; places = r .places }
+
+abbrev pub loadAnswer : Sizes → List ℕ → LoadAnswer
+loadAnswer r states = record { number = r .number; groups = r .groups; places = r .places; states = states }
 
 abbrev pub writeAnswer : Written → List ℕ → WriteAnswer
 writeAnswer r space = record { number = r .number; bytes = r .bytes; space = space }
@@ -28,6 +31,9 @@ fillAnswer r table = record { number = r .number; places = r .places; table = ta
 
 abbrev pub editAnswer : Edited → List ℕ → List ℕ → List ℕ → EditAnswer
 editAnswer r frames table space = record { number = r .number; moves = r .moves; frames = frames; table = table; space = space }
+
+abbrev pub storeAnswer : ℕ → List ℕ → StoreAnswer
+storeAnswer n states = record { number = n; states = states }
 
 abbrev pub ceilingAnswer : Limit → CeilingAnswer
 ceilingAnswer r = record { number = r .number; groups = r .groups; moves = r .moves }

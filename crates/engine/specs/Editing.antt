@@ -29,7 +29,7 @@ refuses n a f t e s p q = ap (λ (x : Edited). editAnswer x f t s) p ∙ sym q
 pub room-for : (n k : ℕ) → k ≤ n / 23 → 23 * k ≤ n
 room-for n k h = omega (arith, h)
 
-no-room-for : (n k : ℕ) → n / 23 < k → n < 23 * k
+pub no-room-for : (n k : ℕ) → n / 23 < k → n < 23 * k
 no-room-for n k h = omega (arith, h)
 
 module _ (f t e s : List ℕ) (c : Change) (q : changeOf e ≡ c) (l : loadNumber f ≡ 0) (r : mapOf f .groups * widthOf (mapOf f) ≤ length t) (i : independent (mapOf f) ≡ true) (k : fits (mapOf f) c ≡ true)

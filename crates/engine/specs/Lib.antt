@@ -4,3 +4,5 @@ pub mod Done
 pub mod Editing
 pub mod Edits
 pub mod Limits
+pub mod Returns
+pub mod Stores

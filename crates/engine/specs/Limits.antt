@@ -13,6 +13,7 @@ use Rattle.definitions.specs.Table.{runsOf, tableOf}
 use Rattle.definitions.specs.Ceiling.{holders}
 use Rattle.definitions.specs.Load.{hasDevice, loadNumber}
 use Rattle.definitions.specs.Calls.{roomForTable, independent, fresh, CeilingAnswer, ceilingNumber, ceilingBy, ceilingOf}
+use Rattle.laws.specs.Lists.{same-is}
 use Rattle.laws.specs.Counting.{at-number}
 use Rattle.laws.specs.Loadable.{Loadable}
 use Rattle.text.specs.Records.{noDevice}
@@ -22,7 +23,6 @@ use Rattle.edit_frame.specs.declared.Found.the-variants.{At, Missing}
 use Rattle.edit_frame.specs.Found.{FoundIs}
 use Rattle.hierarchy.specs.declared.Rule.{Rule}
 use Rattle.ceiling.specs.Rows.{rowsHolding, front-holders}
-use Rattle.survey.specs.Rows.{same-is}
 use Rattle.survey.specs.Places.{placesAt}
 use Rattle.survey.specs.Surveyed.{rowsTo}
 use Rattle.survey.specs.Between.{Between, fresh-is, old-table}

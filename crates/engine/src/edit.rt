@@ -20,6 +20,7 @@ use edit_frame::Found;
 use frames::records;
 use frames::shape;
 use moves::applies;
+use moves::applies::Task;
 use text::Shape;
 
 // The number of the first question answered no, or 0, and how many places moved.
@@ -30,7 +31,7 @@ pub struct Edited {
 }
 
 // A refusal: its number and no moves.
-fn refused(number: u32) -> Edited
+pub(crate) fn refused(number: u32) -> Edited
     ensures { λ r. ⌜ r ≡ record { number = number; moves = 0 } ⌝ }
 {
     Edited { number, moves: 0 }
@@ -68,8 +69,11 @@ fn edit_device(
         &p.old,
         &p.new,
         rule,
-        groups,
-        w,
+        Task {
+            groups,
+            w,
+            returning: false,
+        },
         &found.changed,
         table,
         space,

@@ -1,7 +1,12 @@
 // "The engine loads a map": the map is held as the frames that were lent.
 ghost use mathlib.Core.Path.{_≡_};
-ghost use Rattle.definitions.specs.Calls.{loadOf, sizesOf};
-ghost use Rattle.engine.specs.Answers.{sizesAnswer};
+ghost use mathlib.Core.List.{[]};
+ghost use Prim.Native.Nat.{_<_};
+ghost use lib.ListN.{length};
+ghost use Rattle.definitions.specs.Lists.{over};
+ghost use Rattle.definitions.specs.States.{wordsOf};
+ghost use Rattle.definitions.specs.Calls.{sizesOf, loadOf};
+ghost use Rattle.engine.specs.Answers.{sizesAnswer, loadAnswer};
 use blocks::widths;
 use frames::records;
 use frames::shape;
@@ -12,13 +17,6 @@ pub struct Sizes {
     pub number: u32,
     pub groups: u32,
     pub places: u32,
-}
-
-// The number of the first question answered no, or 0.
-pub fn load(frames: &[u8]) -> u32
-    ensures { λ r. ⌜ r ≡ loadOf (now (frames .entry)) ⌝ }
-{
-    door::load(frames)
 }
 
 // The sizes of a map that loads: its table has so many rows of so many places.
@@ -41,4 +39,24 @@ pub fn sizes_of(map: &[u8]) -> Sizes
         groups,
         places: w as u32,
     }
+}
+
+// No state is stored any more.
+fn empty(states: &mut [u32])
+    requires { ⌜ 1 < length (now states) ⌝ }
+    ensures { λ _. ⌜ now (states .exit) ≡ over (wordsOf []) (now (states .entry)) ⌝ }
+{
+    states[0] = 0;
+    states[1] = 0;
+}
+
+// Loads a map: puts load's questions, tells its sizes, and empties the states. A refusal leaves them.
+pub fn load(frames: &[u8], states: &mut [u32; 24586]) -> Sizes
+    ensures { λ r. ⌜ loadAnswer r (now (states .exit)) ≡ loadOf (now (frames .entry)) (now (states .entry)) ⌝ }
+{
+    let r = sizes_of(frames);
+    if r.number == 0 {
+        empty(states);
+    }
+    r
 }

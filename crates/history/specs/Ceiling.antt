@@ -18,7 +18,7 @@ use Rattle.definitions.specs.Table.{tableOf}
 use Rattle.definitions.specs.Edit.{changeOf, put, movesOf, movesBytes}
 use Rattle.definitions.specs.Ceiling.{holds, holders, ceiling}
 use Rattle.definitions.specs.Load.{hasDevice}
-use Rattle.definitions.specs.Calls.{fits, editOf, CeilingAnswer, ceilingNumber, ceilingBy, ceilingOf}
+use Rattle.definitions.specs.Calls.{fits, EditAnswer, editOf, CeilingAnswer, ceilingNumber, ceilingBy, ceilingOf}
 use Rattle.laws.specs.Lists.{both}
 use Rattle.laws.specs.Loadable.{put-groups, put-has-device}
 use Rattle.tracing.specs.Moves.{moves-traced}
@@ -26,7 +26,7 @@ use Rattle.text.specs.Agreement.{loaded-map}
 use Rattle.ceiling.specs.Ceiling.{lowered, raised, lowered-most, raised-most}
 use Rattle.ceiling.specs.Rows.{rowAt, rowsHolding, front-row, front-holders}
 use Rattle.history.specs.Step.{Standing, Done, Told, asked-14, asked-16, asked-19, step-told, step-stands}
-use Rattle.history.specs.Calls.{Call, Run, none, then, told-done}
+use Rattle.history.specs.Calls.{told-done}
 
 -- what the ceiling answers of device d where this table of map m holds it in so many rows
 pub record Ceiled (d : ℕ) (m : Map) (table : List ℕ) (k : CeilingAnswer) : Type 0 where
@@ -34,24 +34,16 @@ pub record Ceiled (d : ℕ) (m : Map) (table : List ℕ) (k : CeilingAnswer) : T
   pub groups : k .groups ≡ rowsHolding (widthOf m) d table (m .groups)
   pub moves : k .moves ≡ widthOf m * k .groups
 
--- a call of edit, its moves, and the ceiling k beside a table of map m
-pub record Within (d : ℕ) (m : Map) (table : List ℕ) (moves : List Move) (c : Call) (k : CeilingAnswer) : Type 0 where
+-- a call of edit that was lent this space and answered o, its moves, and the ceiling k beside a table of map m
+pub record Within (d : ℕ) (m : Map) (table : List ℕ) (moves : List Move) (space : List ℕ) (o : EditAnswer) (k : CeilingAnswer) : Type 0 where
   -- the moves are those that the call wrote and counted
-  pub wrote : c .answer .space ≡ over (movesBytes moves) (c .space)
-  pub counted : c .answer .moves ≡ length moves
+  pub wrote : o .space ≡ over (movesBytes moves) space
+  pub counted : o .moves ≡ length moves
   -- each is of a group whose row holds the device
   pub only : (v : Move) → List·Memᴰ v moves → (v .group < m .groups) × (has d (rowAt (widthOf m) table (v .group)) ≡ true)
   -- and there are no more than the ceiling, W times the number of such rows
   pub told : Ceiled d m table k
-  pub most : c .answer .moves ≤ k .moves
-
--- what calls of edit leave stands as what they were lent
-pub stands : (rest : List ℕ) {frames table frames′ table′ : List ℕ} {cs : List Call} → Standing rest frames table → Run frames table cs frames′ table′
-    → Standing rest frames′ table′
-stands rest S none = S
-stands rest {frames} {table} S (then c e r) =
-    let t : Told rest frames table (c .edit) (c .space) (c .answer) = rw e (step-told rest frames table (c .edit) (c .space) S) in
-    stands rest (step-stands rest frames table (c .edit) (c .space) S (c .answer) t) r
+  pub most : o .moves ≤ k .moves
 
 -- ---- the ceiling, lent a map and its fresh fill
 
@@ -87,10 +79,10 @@ module _ (rest frames table : List ℕ) (S : Standing rest frames table) where
 
 -- ---- beside a good call of edit
 
-module _ (rest frames table : List ℕ) (c : Call) (S : Standing rest frames table) (e : c .answer ≡ editOf frames table (c .edit) (c .space))
-    (z : c .answer .number ≡ 0) (d a : ℕ) (q : changeOf (c .edit) ≡ Acceptance d a) where
-  t : Told rest frames table (c .edit) (c .space) (c .answer)
-  t = rw e (step-told rest frames table (c .edit) (c .space) S)
+module _ (rest frames table edit space : List ℕ) (o : EditAnswer) (S : Standing rest frames table) (e : o ≡ editOf frames table edit space)
+    (z : o .number ≡ 0) (d a : ℕ) (q : changeOf edit ≡ Acceptance d a) where
+  t : Told rest frames table edit space o
+  t = rw e (step-told rest frames table edit space S)
 
   abbrev before : Map
   before = mapOf frames
@@ -102,10 +94,10 @@ module _ (rest frames table : List ℕ) (c : Call) (S : Standing rest frames tab
   moves = movesOf before after
 
   fit : fits before (Acceptance d a) ≡ true
-  fit = subst (λ (o : Change). fits before o ≡ true) q (told-done rest frames table c t z .0)
+  fit = subst (λ (c : Change). fits before c ≡ true) q (told-done rest frames table edit space o t z .0)
 
-  made : Done rest before (Acceptance d a) (c .space) (c .answer)
-  made = subst (λ (o : Change). Done rest before o (c .space) (c .answer)) q (told-done rest frames table c t z .1)
+  made : Done rest after moves space o
+  made = subst (λ (c : Change). Done rest (put before c) (movesOf before (put before c)) space o) q (told-done rest frames table edit space o t z .1)
 
   present : hasDevice before d ≡ true
   unfolding fits
@@ -115,7 +107,7 @@ module _ (rest frames table : List ℕ) (c : Call) (S : Standing rest frames tab
   group-below v i = moves-traced before (Acceptance d a) (loaded-map frames (S .loads)) (S .only) fit .each v i .group
 
   -- LOWERING: the rows of the table that edit was lent, and the ceiling told with that map and that table
-  pub lowering : a ≤ acceptanceOf before d → Within d before table moves c (ceilingOf frames table d)
+  pub lowering : a ≤ acceptanceOf before d → Within d before table moves space o (ceilingOf frames table d)
   lowering l =
       let L = loaded-map frames (S .loads) in
       record {
@@ -127,22 +119,22 @@ module _ (rest frames table : List ℕ) (c : Call) (S : Standing rest frames tab
       }
 
   -- RAISING: the rows of the table that edit left, and the ceiling told with the map and the table that it left
-  pub raising : acceptanceOf before d ≤ a → Within d (mapOf (c .answer .frames)) (c .answer .table) moves c (ceilingOf (c .answer .frames) (c .answer .table) d)
+  pub raising : acceptanceOf before d ≤ a → Within d (mapOf (o .frames)) (o .table) moves space o (ceilingOf (o .frames) (o .table) d)
   raising l =
       let L = loaded-map frames (S .loads) in
-      let S′ = step-stands rest frames table (c .edit) (c .space) S (c .answer) t in
+      let S′ = step-stands rest frames table edit space S o t in
       let y = made .holds in
-      let there : hasDevice (mapOf (c .answer .frames)) d ≡ true = ap (λ (n : Map). hasDevice n d) y ∙ put-has-device before (Acceptance d a) d ∙ present in
-      let below : (v : Move) → List·Memᴰ v moves → v .group < mapOf (c .answer .frames) .groups =
+      let there : hasDevice (mapOf (o .frames)) d ≡ true = ap (λ (n : Map). hasDevice n d) y ∙ put-has-device before (Acceptance d a) d ∙ present in
+      let below : (v : Move) → List·Memᴰ v moves → v .group < mapOf (o .frames) .groups =
       λ v i. omega (arith, group-below v i, ap (λ (n : Map). n .groups) y, put-groups before (Acceptance d a)) in
       record {
         wrote = made .written;
         counted = made .count;
         only = λ v i. (
           below v i,
-          row-holds rest (c .answer .frames) (c .answer .table) S′ d (v .group) (below v i)
+          row-holds rest (o .frames) (o .table) S′ d (v .group) (below v i)
               (ap (λ (n : Map). holds d (placedOf n (v .group))) y ∙ raised before d a L (S .only) fit l v i),
         );
-        told = ceiling-told rest (c .answer .frames) (c .answer .table) S′ d there;
-        most = omega (arith, made .count, raised-most before d a L (S .only) fit l, ceiling-moves rest (c .answer .frames) (c .answer .table) S′ d there, ap (λ (n : Map). ceiling n d) y);
+        told = ceiling-told rest (o .frames) (o .table) S′ d there;
+        most = omega (arith, made .count, raised-most before d a L (S .only) fit l, ceiling-moves rest (o .frames) (o .table) S′ d there, ap (λ (n : Map). ceiling n d) y);
       }

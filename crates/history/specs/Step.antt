@@ -9,6 +9,7 @@ use lib.ListN.{length, take, drop, length-append, length-drop}
 use lib.Seq.{take-at, drop-at}
 use borrow.Author.Tests.{le-leb, eq-eqb}
 use Rattle.definitions.specs.declared.Change.{Change}
+use Rattle.definitions.specs.declared.Move.{Move}
 use Rattle.definitions.specs.Lists.{same, over, firstNo}
 use Rattle.definitions.specs.Map.{Map, mapOf}
 use Rattle.definitions.specs.Rule.{widthOf}
@@ -17,17 +18,11 @@ use Rattle.definitions.specs.Edit.{changeOf, put, movesOf, movesBytes}
 use Rattle.definitions.specs.Writing.{mapText}
 use Rattle.definitions.specs.Load.{loadNumber}
 use Rattle.definitions.specs.Calls.{whole, roomForTable, independent, fits, fresh, roomForMoves, EditAnswer, caseOf, editNumber, editBy, editAnswer, editOf}
-use Rattle.laws.specs.Lists.{and-both}
+use Rattle.laws.specs.Lists.{is-same}
 use Rattle.laws.specs.Loadable.{Loadable, put-loadable, put-groups, put-width}
 use Rattle.tracing.specs.Listed.{table-width}
 use Rattle.tracing.specs.Edited.{put-independent}
 use Rattle.text.specs.Agreement.{loaded-map, written-map, written-loads}
-
--- a list is the same as itself
-same-self : (xs : List ℕ) → same xs xs ≡ true
-unfolding same
-same-self [] = refl
-same-self (x ∷ xs) = and-both (eq-eqb x x refl) (same-self xs)
 
 -- the frames and the table as they stand between two calls; rest is the table that fill was lent
 pub record Standing (rest frames table : List ℕ) : Type 0 where
@@ -49,14 +44,14 @@ pub record Refused (n : ℕ) (frames table space : List ℕ) (o : EditAnswer) : 
   pub same-table : o .table ≡ table
   pub same-space : o .space ≡ space
 
--- a call that is good: the map with the change put in, its fresh fill, and the moves between the two
-pub record Done (rest : List ℕ) (m : Map) (c : Change) (space : List ℕ) (o : EditAnswer) : Type 0 where
+-- a call that is good: the map that it leaves, its fresh fill, and the moves
+pub record Done (rest : List ℕ) (m′ : Map) (moves : List Move) (space : List ℕ) (o : EditAnswer) : Type 0 where
   pub number : o .number ≡ 0
-  pub count : o .moves ≡ length (movesOf m (put m c))
-  pub text : o .frames ≡ mapText (put m c)
-  pub holds : mapOf (o .frames) ≡ put m c
-  pub filled : o .table ≡ over (tableOf (put m c)) rest
-  pub written : o .space ≡ over (movesBytes (movesOf m (put m c))) space
+  pub count : o .moves ≡ length moves
+  pub text : o .frames ≡ mapText m′
+  pub holds : mapOf (o .frames) ≡ m′
+  pub filled : o .table ≡ over (tableOf m′) rest
+  pub written : o .space ≡ over (movesBytes moves) space
 
 -- a call is refused exactly where a question is answered no: where the map and the table stand as they should, that is 18 or 20
 pub data Told (rest frames table edit space : List ℕ) (o : EditAnswer) : Type 0 where
@@ -64,7 +59,7 @@ pub data Told (rest frames table edit space : List ℕ) (o : EditAnswer) : Type 
   cramped : fits (mapOf frames) (changeOf edit) ≡ true → roomForMoves (movesOf (mapOf frames) (put (mapOf frames) (changeOf edit))) space ≡ false
       → Refused 20 frames table space o → Told rest frames table edit space o
   done : fits (mapOf frames) (changeOf edit) ≡ true → roomForMoves (movesOf (mapOf frames) (put (mapOf frames) (changeOf edit))) space ≡ true
-      → Done rest (mapOf frames) (changeOf edit) space o → Told rest frames table edit space o
+      → Done rest (put (mapOf frames) (changeOf edit)) (movesOf (mapOf frames) (put (mapOf frames) (changeOf edit))) space o → Told rest frames table edit space o
 
 length-over : (a rest : List ℕ) → length a ≤ length rest → length (over a rest) ≡ length rest
 length-over a rest h = length-append a (drop (length a) rest) ∙ omega (arith, length-drop (length a) rest)
@@ -74,7 +69,7 @@ module _ (rest frames table : List ℕ) (S : Standing rest frames table) where
   abbrev n : Map
   n = mapOf frames
 
-  loadable : Loadable n
+  pub loadable : Loadable n
   loadable = loaded-map frames (S .loads)
 
   filled-length : length (tableOf n) ≡ n .groups * widthOf n
@@ -96,7 +91,36 @@ module _ (rest frames table : List ℕ) (S : Standing rest frames table) where
   asked-19 =
       let e : take (n .groups * widthOf n) table ≡ tableIn (runsOf n) =
       ap (take (n .groups * widthOf n)) (S .filled) ∙ take-at (tableOf n) (drop (length (tableOf n)) rest) (n .groups * widthOf n) filled-length in
-      rw e (same-self (tableIn (runsOf n)))
+      rw e (is-same _ _ refl)
+
+-- a good call leaves a table of the same length, and what it leaves stands as what it was lent: any call that leaves another map that load
+-- takes, with the same groups and width and with no first-n select
+module _ (rest frames table : List ℕ) (S : Standing rest frames table) (m′ : Map) (L′ : Loadable m′) (ind′ : independent m′ ≡ true)
+    (groups : m′ .groups ≡ mapOf frames .groups) (width : widthOf m′ ≡ widthOf (mapOf frames)) where
+  new-length : length (tableOf m′) ≡ length (tableOf (mapOf frames))
+  unfolding tableOf runsOf
+  new-length =
+      let m = mapOf frames in
+      let e : m′ .groups * widthOf m′ ≡ m .groups * widthOf m =
+      ap (λ (n : ℕ). n * widthOf m′) groups ∙ ap (λ (n : ℕ). m .groups * n) width in
+      table-width m′ L′ ind′ (m′ .groups) ∙ e ∙ sym (table-width m (loadable rest frames table S) (S .only) (m .groups))
+
+  pub new-table : over (tableOf m′) table ≡ over (tableOf m′) rest
+  new-table = ap (over (tableOf m′)) (S .filled) ∙ over-over (tableOf m′) (tableOf (mapOf frames)) rest new-length
+
+  pub done-stands : {moves : List Move} {space : List ℕ} (o : EditAnswer) → Done rest m′ moves space o → Standing rest (o .frames) (o .table)
+  done-stands o d =
+      record {
+        loads = rw (d .text) (written-loads m′ L′);
+        only = ap independent (d .holds) ∙ ind′;
+        room =
+            subst (λ (n : Map). n .groups * widthOf n ≤ length rest) (sym (d .holds))
+            (subst (λ (n : ℕ). n * widthOf m′ ≤ length rest) (sym groups)
+            (subst (λ (n : ℕ). mapOf frames .groups * n ≤ length rest) (sym width) (S .room)));
+        filled = d .filled ∙ ap (λ (n : Map). over (tableOf n) rest) (sym (d .holds));
+      }
+
+-- ---- a call of edit
 
 module _ (rest frames table edit space : List ℕ) (S : Standing rest frames table) where
   abbrev m : Map
@@ -120,13 +144,6 @@ module _ (rest frames table edit space : List ℕ) (S : Standing rest frames tab
   unfolding editOf editAnswer
   answer-is = ap (editBy (caseOf frames table edit space)) step-number
 
-  new-length : fits m c ≡ true → length (tableOf m′) ≡ length (tableOf m)
-  unfolding tableOf runsOf
-  new-length h =
-      let e : m′ .groups * widthOf m′ ≡ m .groups * widthOf m =
-      ap (λ (n : ℕ). n * widthOf m′) (put-groups m c) ∙ ap (λ (n : ℕ). m .groups * n) (put-width m c) in
-      table-width m′ (put-loadable m c is-loadable h) (put-independent m c ∙ S .only) (m′ .groups) ∙ e ∙ sym (table-width m is-loadable (S .only) (m .groups))
-
   -- ONE CALL
   pub step-told : Told rest frames table edit space (editOf frames table edit space)
   unfolding editBy caseOf movesOf tableOf
@@ -143,7 +160,7 @@ module _ (rest frames table edit space : List ℕ) (S : Standing rest frames tab
             count = refl;
             text = refl;
             holds = written-map m′ (put-loadable m c is-loadable e);
-            filled = ap (over (tableOf m′)) (S .filled) ∙ over-over (tableOf m′) (tableOf m) rest (new-length e);
+            filled = new-table rest frames table S m′ (put-loadable m c is-loadable e) (put-independent m c ∙ S .only) (put-groups m c) (put-width m c);
             written = refl;
           })
 
@@ -152,12 +169,4 @@ module _ (rest frames table edit space : List ℕ) (S : Standing rest frames tab
   step-stands o (unfit e r) = rw (r .same-frames, r .same-table) S
   step-stands o (cramped e f r) = rw (r .same-frames, r .same-table) S
   step-stands o (done e f d) =
-      record {
-        loads = rw (d .text) (written-loads m′ (put-loadable m c is-loadable e));
-        only = ap independent (d .holds) ∙ put-independent m c ∙ S .only;
-        room =
-            subst (λ (n : Map). n .groups * widthOf n ≤ length rest) (sym (d .holds))
-            (subst (λ (n : ℕ). n * widthOf m′ ≤ length rest) (sym (put-groups m c))
-            (subst (λ (n : ℕ). m .groups * n ≤ length rest) (sym (put-width m c)) (S .room)));
-        filled = d .filled ∙ ap (λ (n : Map). over (tableOf n) rest) (sym (d .holds));
-      }
+      done-stands rest frames table S m′ (put-loadable m c is-loadable e) (put-independent m c ∙ S .only) (put-groups m c) (put-width m c) o d

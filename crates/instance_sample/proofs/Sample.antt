@@ -6,13 +6,15 @@ use mathlib.Core.List.{List, [], _∷_, _++_, map}
 use Prim.Native.Nat.{ℕ}
 use Rattle.definitions.specs.Frames.{hex}
 use Rattle.definitions.specs.Map.{mapOf}
-use Rattle.definitions.specs.Calls.{loadOf, independent, fillOf, editOf}
+use Rattle.definitions.specs.Load.{loadNumber}
+use Rattle.definitions.specs.Calls.{independent, fillOf, editOf}
 use Rattle.definitions.specs.Open.{computing}
 use Rattle.samples.specs.Samples.{M, line}
 use Rattle.history.specs.Calls.{Kept}
-use Rattle.demands.proofs.Contracts.{EditCall, callOf, editAnswered}
-use Rattle.demands.proofs.Demand3.{Start, EditRun, empty, demand-3, Unaltered, first-n-refused}
-use Rattle.demands.proofs.Instance.{lentSpace, Lending, loadCall, fillCall, editCall, starts, answers}
+use Rattle.history.specs.FirstN.{Unaltered}
+use Rattle.demands.proofs.Contracts.{EditCall, edits, callOf, editAnswered}
+use Rattle.demands.proofs.Demand3.{Start, CallRun, empty, demand-3, first-n-refused}
+use Rattle.demands.proofs.Instance.{lentSpace, Lending, site, loadCall, fillCall, editCall, starts, answers}
 
 -- a table of four places, as it is lent
 abbrev pub lentTable : List ℕ
@@ -45,7 +47,7 @@ M′ =
 abbrev pub M′-table : List ℕ
 M′-table = 0xffff ∷ 0xffff ∷ 0xffff ∷ 0xffff ∷ []
 
-pub M-loads : loadOf M ≡ 0
+pub M-loads : loadNumber M ≡ 0
 unfolding computing
 M-loads = refl
 
@@ -73,7 +75,7 @@ F =
     ++ line 12 0x040400000000
     ++ line 6 0x050007
 
-pub F-loads : loadOf F ≡ 0
+pub F-loads : loadNumber F ≡ 0
 unfolding computing
 F-loads = refl
 
@@ -94,28 +96,28 @@ module _ (k : Lending) where
   abbrev pub M-call : EditCall
   M-call = editCall k M M-table M-edit lentSpace
 
-  pub M-start : Start (loadCall k M) (fillCall k M lentTable) M lentTable M-table
+  pub M-start : Start (loadCall k M) (fillCall k M lentTable) (site M M-table) lentTable
   M-start = starts k M-loads M-fills
 
   -- number 0, two moves, their bytes, and four holes
   pub M-answered : editAnswered M-call ≡ record { number = 0; moves = 2; frames = M′; table = M′-table; space = M-moves }
   M-answered = M-edited
 
-  pub M-run : EditRun M M-table (M-call ∷ []) M′ M′-table
+  pub M-run : CallRun (site M M-table) (map edits (M-call ∷ [])) (site M′ M′-table)
   M-run = answers k M-edited empty
 
-  pub M-kept : Kept lentTable M M-table (map callOf (M-call ∷ [])) M′ M′-table
-  M-kept = demand-3 (loadCall k M) (fillCall k M lentTable) (M-call ∷ []) M lentTable M-table M′ M′-table M-start M-independent M-run
+  pub M-kept : Kept lentTable (site M M-table) (map callOf (map edits (M-call ∷ []))) (site M′ M′-table)
+  M-kept = demand-3 (loadCall k M) (fillCall k M lentTable) (map edits (M-call ∷ [])) (site M M-table) lentTable (site M′ M′-table) M-start M-independent M-run
 
   -- and those of M with a first-n select
   abbrev pub F-call : EditCall
   F-call = editCall k F M-table M-edit lentSpace
 
-  pub F-start : Start (loadCall k F) (fillCall k F lentTable) F lentTable M-table
+  pub F-start : Start (loadCall k F) (fillCall k F lentTable) (site F M-table) lentTable
   F-start = starts k F-loads F-fills
 
-  pub F-run : EditRun F M-table (F-call ∷ []) F M-table
+  pub F-run : CallRun (site F M-table) (map edits (F-call ∷ [])) (site F M-table)
   F-run = answers k F-edited empty
 
-  pub F-unaltered : Unaltered F M-table (F-call ∷ []) F M-table
-  F-unaltered = first-n-refused (loadCall k F) (fillCall k F lentTable) (F-call ∷ []) F lentTable M-table F M-table F-start F-first-n F-run
+  pub F-unaltered : Unaltered (site F M-table) (map callOf (map edits (F-call ∷ []))) (site F M-table)
+  F-unaltered = first-n-refused (loadCall k F) (fillCall k F lentTable) (map edits (F-call ∷ [])) (site F M-table) lentTable (site F M-table) F-start F-first-n F-run

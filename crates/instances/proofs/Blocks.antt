@@ -8,13 +8,14 @@ use Prim.Native.Nat.{ℕ}
 use Rattle.definitions.specs.Frames.{hex}
 use Rattle.definitions.specs.Map.{mapOf}
 use Rattle.definitions.specs.Edit.{changeOf, put, movesOf}
-use Rattle.definitions.specs.Calls.{EditAnswer, loadOf, independent, fillOf, editOf}
+use Rattle.definitions.specs.Load.{loadNumber}
+use Rattle.definitions.specs.Calls.{EditAnswer, independent, fillOf, editOf}
 use Rattle.definitions.specs.Open.{computing}
 use Rattle.samples.specs.Samples.{line}
 use Rattle.history.specs.Calls.{MovesTraced, Kept}
-use Rattle.demands.proofs.Contracts.{EditCall, callOf}
-use Rattle.demands.proofs.Demand3.{Start, EditRun, empty, demand-3}
-use Rattle.demands.proofs.Instance.{lentTable, lentSpace, move, Lending, loadCall, fillCall, editCall, starts, answers, first, after}
+use Rattle.demands.proofs.Contracts.{EditCall, edits, callOf}
+use Rattle.demands.proofs.Demand3.{Start, CallRun, empty, demand-3}
+use Rattle.demands.proofs.Instance.{lentTable, lentSpace, move, Lending, site, loadCall, fillCall, editCall, starts, answers, first, after}
 
 -- one group; drives 0, 1 and 2 in cabinet 1, drives 3 and 4 in cabinet 2; a drive of cabinet 1, and through 2 cabinets. The edits change the line
 -- of drive 0 and the weights of what is above it
@@ -77,7 +78,7 @@ Q-edit = hex 14 0x21000000000000
 abbrev pub Q-moves : List ℕ
 Q-moves = line 22 0x1300000000010000000101 ++ line 22 0x1300000000030001000203
 
-pub P-loads : loadOf P ≡ 0
+pub P-loads : loadNumber P ≡ 0
 unfolding computing
 P-loads = refl
 
@@ -109,20 +110,20 @@ module _ (k : Lending) where
   abbrev pub P-calls : List EditCall
   P-calls = editCall k P P-table P-edit lentSpace ∷ editCall k Q Q-table Q-edit lentSpace ∷ []
 
-  pub P-start : Start (loadCall k P) (fillCall k P lentTable) P lentTable P-table
+  pub P-start : Start (loadCall k P) (fillCall k P lentTable) (site P P-table) lentTable
   P-start = starts k P-loads P-fills
 
-  pub P-run : EditRun P P-table P-calls R R-table
+  pub P-run : CallRun (site P P-table) (map edits P-calls) (site R R-table)
   P-run = answers k P-edited (answers k Q-edited empty)
 
-  pub P-kept : Kept lentTable P P-table (map callOf P-calls) R R-table
-  P-kept = demand-3 (loadCall k P) (fillCall k P lentTable) P-calls P lentTable P-table R R-table P-start P-independent P-run
+  pub P-kept : Kept lentTable (site P P-table) (map callOf (map edits P-calls)) (site R R-table)
+  P-kept = demand-3 (loadCall k P) (fillCall k P lentTable) (map edits P-calls) (site P P-table) lentTable (site R R-table) P-start P-independent P-run
 
   -- so the moves of the two edits are all, and each is traced
   pub P-traced : MovesTraced (mapOf P) (changeOf P-edit) (move 1 2 0 2 ∷ move 3 0 1 3 ∷ [])
   P-traced =
-      subst (MovesTraced (mapOf P) (changeOf P-edit)) P-moved (first (P-kept .each) .moves (ap (λ (o : EditAnswer). o .number) P-edited))
+      subst (MovesTraced (mapOf P) (changeOf P-edit)) P-moved (first (P-kept .each) .own .traced (ap (λ (o : EditAnswer). o .number) P-edited))
 
   pub Q-traced : MovesTraced (mapOf Q) (changeOf Q-edit) (move 1 0 1 1 ∷ move 3 1 2 3 ∷ [])
   Q-traced =
-      subst (MovesTraced (mapOf Q) (changeOf Q-edit)) Q-moved (first (after P-edited (P-kept .each)) .moves (ap (λ (o : EditAnswer). o .number) Q-edited))
+      subst (MovesTraced (mapOf Q) (changeOf Q-edit)) Q-moved (first (after P-edited (P-kept .each)) .own .traced (ap (λ (o : EditAnswer). o .number) Q-edited))

@@ -10,20 +10,21 @@ use Rattle.definitions.specs.declared.Change.the-variants.{Acceptance}
 use Rattle.definitions.specs.Map.{mapOf}
 use Rattle.definitions.specs.View.{acceptanceOf}
 use Rattle.definitions.specs.Edit.{changeOf, put, movesOf}
-use Rattle.definitions.specs.Calls.{EditAnswer, CeilingAnswer, loadOf, independent, fillOf}
+use Rattle.definitions.specs.Load.{loadNumber}
+use Rattle.definitions.specs.Calls.{EditAnswer, CeilingAnswer, independent, fillOf}
 use Rattle.definitions.specs.Open.{computing}
 use Rattle.sample_ceiling.specs.Reached.{alive, dead, alive-table, dead-table, dies, returns, space, died, returned, ceiling-alive}
 use Rattle.history.specs.Ceiling.{Within}
-use Rattle.demands.proofs.Contracts.{EditCall, callOf, CeilingCall, ceilingAnswered}
+use Rattle.demands.proofs.Contracts.{EditCall, edits, editAnswered, CeilingCall, ceilingAnswered}
 use Rattle.demands.proofs.Demand3.{Start, empty}
 use Rattle.demands.proofs.Ceiling.{lowering-moves, raising-moves}
-use Rattle.demands.proofs.Instance.{Lending, loadCall, fillCall, editCall, ceilingCall, starts, answers}
+use Rattle.demands.proofs.Instance.{Lending, site, loadCall, fillCall, editCall, ceilingCall, starts, answers}
 
 -- the table as fill is lent it
 abbrev pub lentTable : List ℕ
 lentTable = replicate 4 7
 
-pub alive-loads : loadOf alive ≡ 0
+pub alive-loads : loadNumber alive ≡ 0
 unfolding computing
 alive-loads = refl
 
@@ -48,7 +49,7 @@ unfolding computing
 dead-acceptance = refl
 
 module _ (k : Lending) where
-  pub start : Start (loadCall k alive) (fillCall k alive lentTable) alive lentTable alive-table
+  pub start : Start (loadCall k alive) (fillCall k alive lentTable) (site alive alive-table) lentTable
   start = starts k alive-loads alive-fills
 
   -- the call for the ceiling, before the drive dies and after it is back
@@ -62,21 +63,21 @@ module _ (k : Lending) where
   returning = editCall k dead dead-table returns space
 
   -- the moves of the first edit are within what was told, 2, and are as many
-  pub dying-within : Within 0 (mapOf alive) alive-table (movesOf (mapOf alive) (put (mapOf alive) (Acceptance 0 0))) (callOf dying) (ceilingAnswered asked)
+  pub dying-within : Within 0 (mapOf alive) alive-table (movesOf (mapOf alive) (put (mapOf alive) (Acceptance 0 0))) space (editAnswered dying) (ceilingAnswered asked)
   dying-within =
-      lowering-moves (loadCall k alive) (fillCall k alive lentTable) [] dying alive lentTable alive-table alive alive-table 0 0 start alive-independent empty refl refl dies-is
+      lowering-moves (loadCall k alive) (fillCall k alive lentTable) [] dying (site alive alive-table) lentTable (site alive alive-table) 0 0 start alive-independent empty refl refl dies-is
       (ap (λ (o : EditAnswer). o .number) died) asked refl refl refl (omega arith)
 
-  pub dying-reaches : callOf dying .answer .moves ≡ ceilingAnswered asked .moves
+  pub dying-reaches : editAnswered dying .moves ≡ ceilingAnswered asked .moves
   dying-reaches = ap (λ (o : EditAnswer). o .moves) died ∙ sym (ap (λ (o : CeilingAnswer). o .moves) ceiling-alive)
 
   -- and those of the second, behind the first, within what is told with the map and the table that it leaves
-  pub returning-within : Within 0 (mapOf alive) alive-table (movesOf (mapOf dead) (put (mapOf dead) (Acceptance 0 65536))) (callOf returning) (ceilingAnswered asked)
+  pub returning-within : Within 0 (mapOf alive) alive-table (movesOf (mapOf dead) (put (mapOf dead) (Acceptance 0 65536))) space (editAnswered returning) (ceilingAnswered asked)
   returning-within =
-      subst (λ (o : EditAnswer). Within 0 (mapOf (o .frames)) (o .table) (movesOf (mapOf dead) (put (mapOf dead) (Acceptance 0 65536))) (callOf returning) (ceilingAnswered asked)) returned
-      (raising-moves (loadCall k alive) (fillCall k alive lentTable) (dying ∷ []) returning alive lentTable alive-table dead dead-table 0 65536 start alive-independent
+      subst (λ (o : EditAnswer). Within 0 (mapOf (o .frames)) (o .table) (movesOf (mapOf dead) (put (mapOf dead) (Acceptance 0 65536))) space (editAnswered returning) (ceilingAnswered asked)) returned
+      (raising-moves (loadCall k alive) (fillCall k alive lentTable) (edits dying ∷ []) returning (site alive alive-table) lentTable (site dead dead-table) 0 65536 start alive-independent
       (answers k died empty) refl refl returns-is (ap (λ (o : EditAnswer). o .number) returned) asked (sym (ap (λ (o : EditAnswer). o .frames) returned))
       (sym (ap (λ (o : EditAnswer). o .table) returned)) refl (omega (arith, dead-acceptance)))
 
-  pub returning-reaches : callOf returning .answer .moves ≡ ceilingAnswered asked .moves
+  pub returning-reaches : editAnswered returning .moves ≡ ceilingAnswered asked .moves
   returning-reaches = ap (λ (o : EditAnswer). o .moves) returned ∙ sym (ap (λ (o : CeilingAnswer). o .moves) ceiling-alive)

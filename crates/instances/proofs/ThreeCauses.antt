@@ -7,13 +7,14 @@ use Prim.Native.Nat.{ℕ}
 use Rattle.definitions.specs.Frames.{hex}
 use Rattle.definitions.specs.Map.{mapOf}
 use Rattle.definitions.specs.Edit.{changeOf, put, movesOf}
-use Rattle.definitions.specs.Calls.{EditAnswer, loadOf, independent, fillOf, editOf}
+use Rattle.definitions.specs.Load.{loadNumber}
+use Rattle.definitions.specs.Calls.{EditAnswer, independent, fillOf, editOf}
 use Rattle.definitions.specs.Open.{computing}
 use Rattle.samples.specs.Samples.{line}
 use Rattle.history.specs.Calls.{MovesTraced, Kept}
-use Rattle.demands.proofs.Contracts.{EditCall, callOf}
-use Rattle.demands.proofs.Demand3.{Start, EditRun, empty, demand-3}
-use Rattle.demands.proofs.Instance.{lentTable, lentSpace, move, Lending, loadCall, fillCall, editCall, starts, answers, first, after}
+use Rattle.demands.proofs.Contracts.{EditCall, edits, callOf}
+use Rattle.demands.proofs.Demand3.{Start, CallRun, empty, demand-3}
+use Rattle.demands.proofs.Instance.{lentTable, lentSpace, move, Lending, site, loadCall, fillCall, editCall, starts, answers, first, after}
 
 -- one group, three drives in one bucket, two places; the edits change the line of drive 1 and the weight of the bucket
 abbrev pub mapWith : List ℕ → ℕ → List ℕ
@@ -70,7 +71,7 @@ B-edit = hex 14 0x21000100000000
 abbrev pub B-moves : List ℕ
 B-moves = line 22 0x1300000000010001000001 ++ line 22 0x1300000000020000000203
 
-pub A-loads : loadOf A ≡ 0
+pub A-loads : loadNumber A ≡ 0
 unfolding computing
 A-loads = refl
 
@@ -106,21 +107,21 @@ module _ (k : Lending) where
   abbrev pub A-calls : List EditCall
   A-calls = editCall k A A-table A-edit lentSpace ∷ editCall k B B-table absent lentSpace ∷ editCall k B B-table B-edit lentSpace ∷ []
 
-  pub A-start : Start (loadCall k A) (fillCall k A lentTable) A lentTable A-table
+  pub A-start : Start (loadCall k A) (fillCall k A lentTable) (site A A-table) lentTable
   A-start = starts k A-loads A-fills
 
-  pub A-run : EditRun A A-table A-calls C C-table
+  pub A-run : CallRun (site A A-table) (map edits A-calls) (site C C-table)
   A-run = answers k A-edited (answers k B-refused (answers k B-edited empty))
 
-  pub A-kept : Kept lentTable A A-table (map callOf A-calls) C C-table
-  A-kept = demand-3 (loadCall k A) (fillCall k A lentTable) A-calls A lentTable A-table C C-table A-start A-independent A-run
+  pub A-kept : Kept lentTable (site A A-table) (map callOf (map edits A-calls)) (site C C-table)
+  A-kept = demand-3 (loadCall k A) (fillCall k A lentTable) (map edits A-calls) (site A A-table) lentTable (site C C-table) A-start A-independent A-run
 
   -- so the moves of the two good edits, which have causes 02 and 03, and 01 and 03, are all, and each is traced
   pub A-traced : MovesTraced (mapOf A) (changeOf A-edit) (move 1 2 1 2 ∷ move 2 1 0 3 ∷ [])
   A-traced =
-      subst (MovesTraced (mapOf A) (changeOf A-edit)) A-moved (first (A-kept .each) .moves (ap (λ (o : EditAnswer). o .number) A-edited))
+      subst (MovesTraced (mapOf A) (changeOf A-edit)) A-moved (first (A-kept .each) .own .traced (ap (λ (o : EditAnswer). o .number) A-edited))
 
   pub B-traced : MovesTraced (mapOf B) (changeOf B-edit) (move 1 1 0 1 ∷ move 2 0 2 3 ∷ [])
   B-traced =
       subst (MovesTraced (mapOf B) (changeOf B-edit)) B-moved
-      (first (after B-refused (after A-edited (A-kept .each))) .moves (ap (λ (o : EditAnswer). o .number) B-edited))
+      (first (after B-refused (after A-edited (A-kept .each))) .own .traced (ap (λ (o : EditAnswer). o .number) B-edited))

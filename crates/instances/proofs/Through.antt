@@ -8,13 +8,14 @@ use lib.ListN.{replicate}
 use Rattle.definitions.specs.Frames.{hex}
 use Rattle.definitions.specs.Map.{mapOf}
 use Rattle.definitions.specs.Edit.{changeOf, put, movesOf}
-use Rattle.definitions.specs.Calls.{EditAnswer, loadOf, independent, fillOf, editOf}
+use Rattle.definitions.specs.Load.{loadNumber}
+use Rattle.definitions.specs.Calls.{EditAnswer, independent, fillOf, editOf}
 use Rattle.definitions.specs.Open.{computing}
 use Rattle.samples.specs.Samples.{line}
 use Rattle.history.specs.Calls.{MovesTraced, Kept}
-use Rattle.demands.proofs.Contracts.{EditCall, callOf}
-use Rattle.demands.proofs.Demand3.{Start, EditRun, empty, demand-3}
-use Rattle.demands.proofs.Instance.{lentTable, lentSpace, move, Lending, loadCall, fillCall, editCall, starts, answers, first, after}
+use Rattle.demands.proofs.Contracts.{EditCall, edits, callOf}
+use Rattle.demands.proofs.Demand3.{Start, CallRun, empty, demand-3}
+use Rattle.demands.proofs.Instance.{lentTable, lentSpace, move, Lending, site, loadCall, fillCall, editCall, starts, answers, first, after}
 
 -- one group; drives 0 and 1 in cabinet 1, drives 2 and 3 in cabinet 2; through 2 cabinets. The edits change the line of drive 2
 -- and the weights of what is above it
@@ -73,7 +74,7 @@ E-edit = hex 14 0x21000200000000
 abbrev pub E-moves : List ℕ
 E-moves = line 22 0x1300000000010002000301
 
-pub D-loads : loadOf D ≡ 0
+pub D-loads : loadNumber D ≡ 0
 unfolding computing
 D-loads = refl
 
@@ -105,20 +106,20 @@ module _ (k : Lending) where
   abbrev pub D-calls : List EditCall
   D-calls = editCall k D D-table D-edit lentSpace ∷ editCall k E E-table E-edit lentSpace ∷ []
 
-  pub D-start : Start (loadCall k D) (fillCall k D lentTable) D lentTable D-table
+  pub D-start : Start (loadCall k D) (fillCall k D lentTable) (site D D-table) lentTable
   D-start = starts k D-loads D-fills
 
-  pub D-run : EditRun D D-table D-calls F F-table
+  pub D-run : CallRun (site D D-table) (map edits D-calls) (site F F-table)
   D-run = answers k D-edited (answers k E-edited empty)
 
-  pub D-kept : Kept lentTable D D-table (map callOf D-calls) F F-table
-  D-kept = demand-3 (loadCall k D) (fillCall k D lentTable) D-calls D lentTable D-table F F-table D-start D-independent D-run
+  pub D-kept : Kept lentTable (site D D-table) (map callOf (map edits D-calls)) (site F F-table)
+  D-kept = demand-3 (loadCall k D) (fillCall k D lentTable) (map edits D-calls) (site D D-table) lentTable (site F F-table) D-start D-independent D-run
 
   -- so the moves of the two edits are all, and each is traced
   pub D-traced : MovesTraced (mapOf D) (changeOf D-edit) (move 1 0 2 2 ∷ move 2 3 0 3 ∷ [])
   D-traced =
-      subst (MovesTraced (mapOf D) (changeOf D-edit)) D-moved (first (D-kept .each) .moves (ap (λ (o : EditAnswer). o .number) D-edited))
+      subst (MovesTraced (mapOf D) (changeOf D-edit)) D-moved (first (D-kept .each) .own .traced (ap (λ (o : EditAnswer). o .number) D-edited))
 
   pub E-traced : MovesTraced (mapOf E) (changeOf E-edit) (move 1 2 3 1 ∷ [])
   E-traced =
-      subst (MovesTraced (mapOf E) (changeOf E-edit)) E-moved (first (after D-edited (D-kept .each)) .moves (ap (λ (o : EditAnswer). o .number) E-edited))
+      subst (MovesTraced (mapOf E) (changeOf E-edit)) E-moved (first (after D-edited (D-kept .each)) .own .traced (ap (λ (o : EditAnswer). o .number) E-edited))

@@ -9,13 +9,14 @@ use lib.ListN.{replicate}
 use Rattle.definitions.specs.Frames.{hex}
 use Rattle.definitions.specs.Map.{mapOf}
 use Rattle.definitions.specs.Edit.{changeOf, put, movesOf}
-use Rattle.definitions.specs.Calls.{EditAnswer, loadOf, independent, fillOf, editOf}
+use Rattle.definitions.specs.Load.{loadNumber}
+use Rattle.definitions.specs.Calls.{EditAnswer, independent, fillOf, editOf}
 use Rattle.definitions.specs.Open.{computing}
 use Rattle.samples.specs.Samples.{line}
 use Rattle.history.specs.Calls.{MovesTraced, Kept}
-use Rattle.demands.proofs.Contracts.{EditCall, callOf}
-use Rattle.demands.proofs.Demand3.{Start, EditRun, empty, demand-3}
-use Rattle.demands.proofs.Instance.{lentTable, lentSpace, move, Lending, loadCall, fillCall, editCall, starts, answers, first, after}
+use Rattle.demands.proofs.Contracts.{EditCall, edits, callOf}
+use Rattle.demands.proofs.Demand3.{Start, CallRun, empty, demand-3}
+use Rattle.demands.proofs.Instance.{lentTable, lentSpace, move, Lending, site, loadCall, fillCall, editCall, starts, answers, first, after}
 
 -- one group; drives 0 to 3 in tree 0, drive 4 in tree 1; one drive from each. The edits change the lines of drives 0 and 4 and
 -- the weights of their trees
@@ -75,7 +76,7 @@ U-edit = hex 14 0x22000400000001
 abbrev pub U-moves : List ℕ
 U-moves = line 22 0x130000000002ffff000402
 
-pub T-loads : loadOf T ≡ 0
+pub T-loads : loadNumber T ≡ 0
 unfolding computing
 T-loads = refl
 
@@ -107,19 +108,19 @@ module _ (k : Lending) where
   abbrev pub T-calls : List EditCall
   T-calls = editCall k T T-table T-edit lentSpace ∷ editCall k U U-table U-edit lentSpace ∷ []
 
-  pub T-start : Start (loadCall k T) (fillCall k T lentTable) T lentTable T-table
+  pub T-start : Start (loadCall k T) (fillCall k T lentTable) (site T T-table) lentTable
   T-start = starts k T-loads T-fills
 
-  pub T-run : EditRun T T-table T-calls W W-table
+  pub T-run : CallRun (site T T-table) (map edits T-calls) (site W W-table)
   T-run = answers k T-edited (answers k U-edited empty)
 
-  pub T-kept : Kept lentTable T T-table (map callOf T-calls) W W-table
-  T-kept = demand-3 (loadCall k T) (fillCall k T lentTable) T-calls T lentTable T-table W W-table T-start T-independent T-run
+  pub T-kept : Kept lentTable (site T T-table) (map callOf (map edits T-calls)) (site W W-table)
+  T-kept = demand-3 (loadCall k T) (fillCall k T lentTable) (map edits T-calls) (site T T-table) lentTable (site W W-table) T-start T-independent T-run
 
   -- so the moves of the two edits are all, and each is traced
   pub T-traced : MovesTraced (mapOf T) (changeOf T-edit) (move 1 2 1 2 ∷ [])
-  T-traced = subst (MovesTraced (mapOf T) (changeOf T-edit)) T-moved (first (T-kept .each) .moves (ap (λ (o : EditAnswer). o .number) T-edited))
+  T-traced = subst (MovesTraced (mapOf T) (changeOf T-edit)) T-moved (first (T-kept .each) .own .traced (ap (λ (o : EditAnswer). o .number) T-edited))
 
   pub U-traced : MovesTraced (mapOf U) (changeOf U-edit) (move 2 0xffff 4 2 ∷ [])
   U-traced =
-      subst (MovesTraced (mapOf U) (changeOf U-edit)) U-moved (first (after T-edited (T-kept .each)) .moves (ap (λ (o : EditAnswer). o .number) U-edited))
+      subst (MovesTraced (mapOf U) (changeOf U-edit)) U-moved (first (after T-edited (T-kept .each)) .own .traced (ap (λ (o : EditAnswer). o .number) U-edited))

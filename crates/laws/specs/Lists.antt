@@ -1,15 +1,16 @@
 -- Laws of tests over lists. Assumes nothing.
-use mathlib.Core.Path.{_≡_, refl, sym, ap, _∙_}
-use mathlib.Core.Bool.{Bool, true, false, cond, _&&_, and-assoc}
+use mathlib.Core.Path.{_≡_, refl, sym, ap, ap₂, _∙_}
+use mathlib.Core.Bool.{Bool, true, false, cond, _&&_, and-assoc, false≢true}
 use mathlib.Core.List.{List, [], _∷_, _++_, map, append-assoc}
 use Prim.Native.Nat.{ℕ, zero, suc, _+_, _<_, _≤_}
 use native.Mathlib.Omega.{arith}
 use native.Mathlib.Nat.{le-of-lt}
-use borrow.Author.Tests.{eq-eqb, ne-eqb}
+use lib.Dec.{eqb}
+use borrow.Author.Tests.{eqb-true, eq-eqb, ne-eqb}
 use lib.ListN.{length, getD, drop, take, set, length-append, length-drop, drop-of-length-le}
 use lib.Seq.{drop-cons, take-suc, set-at, take-length, length-take-le}
 use native.Mathlib.Numerals.{add-one}
-use Rattle.definitions.specs.Lists.{every, kept, linkedFrom, linked, has}
+use Rattle.definitions.specs.Lists.{every, kept, linkedFrom, linked, has, same}
 
 pub both : (a b : Bool) → a && b ≡ true → (a ≡ true) × (b ≡ true)
 both true b e = (refl, e)
@@ -17,6 +18,24 @@ both false b e = absurd (let z : _≡_ {A = ℕ} 0 1 = cc in omega arith)
 
 pub and-both : {a b : Bool} → a ≡ true → b ≡ true → a && b ≡ true
 and-both p q = rw p q
+
+-- ---- the same lists
+
+pub same-is : (xs ys : List ℕ) → same xs ys ≡ true → xs ≡ ys
+unfolding same
+same-is [] [] e = refl
+same-is [] (y ∷ ys) e = absurd (false≢true e)
+same-is (x ∷ xs) [] e = absurd (false≢true e)
+same-is (x ∷ xs) (y ∷ ys) e =
+    let (p, q) = both (eqb x y) (same xs ys) e in ap₂ (λ (z : ℕ) (zs : List ℕ). z ∷ zs) (eqb-true x y p) (same-is xs ys q)
+
+pub is-same : (xs ys : List ℕ) → xs ≡ ys → same xs ys ≡ true
+unfolding same
+is-same xs ys e = rw e (go ys)
+  where
+    go : (zs : List ℕ) → same zs zs ≡ true
+    go [] = refl
+    go (z ∷ zs) = and-both (eq-eqb z z refl) (go zs)
 
 module _ {A : Type 0} (f : A → Bool) where
   pub every-head : (x : A) (xs : List A) → every f (x ∷ xs) ≡ true → f x ≡ true

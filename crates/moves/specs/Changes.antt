@@ -1,7 +1,7 @@
 -- The moves of a row by its entries and causes, and their bytes in the space for them. Assumes nothing.
 use mathlib.Core.Path.{_≡_, refl, sym, ap, ap₂, _∙_, subst}
-use mathlib.Core.Bool.{cond}
-use mathlib.Core.List.{List, [], _∷_, _++_, append-assoc}
+use mathlib.Core.Bool.{Bool, true, false, cond}
+use mathlib.Core.List.{List, [], _∷_, _++_, map, append-assoc, map-append}
 use mathlib.Core.Logic.{⊎-elim}
 use Prim.Native.Nat.{ℕ, zero, suc, _+_, _-_, _*_, _<_, _≤_}
 use native.Mathlib.Omega.{arith}
@@ -10,14 +10,35 @@ use native.Mathlib.Nat.{eq-or-lt-of-le}
 use borrow.Rule.Slice.PartMut.{putMid}
 use borrow.Author.Tests.{eq-eqb, ne-eqb}
 use lib.Dec.{eqb}
-use lib.ListN.{length, getD, take, drop, length-append, length-drop}
+use lib.ListN.{length, getD, take, drop, length-append, length-map, length-drop}
 use lib.Seq.{take-at, drop-at, drop-drop, length-take-le}
 use Rattle.definitions.specs.declared.Move.{Move}
 use Rattle.definitions.specs.Frames.{bytesOf}
 use Rattle.definitions.specs.Select.{Place, entriesOf, nowhere}
 use Rattle.definitions.specs.Edit.{parting, causeOf, moveAt, rowMovesTo, moveLine, movesBytes}
+use Rattle.definitions.specs.States.{withCause, returnMoves}
 use Rattle.laws.specs.Lists.{getD-mapped}
 use Rattle.lockstep.specs.MoveLine.{length-move}
+
+-- the moves as they are told: those of a return (true) all with cause 04
+abbrev pub asTold : Bool → List Move → List Move
+asTold true vs = returnMoves vs
+asTold false vs = vs
+
+pub told-none : (r : Bool) → asTold r [] ≡ []
+unfolding returnMoves
+told-none true = refl
+told-none false = refl
+
+pub told-append : (r : Bool) (us vs : List Move) → asTold r (us ++ vs) ≡ asTold r us ++ asTold r vs
+unfolding returnMoves
+told-append true us vs = map-append (withCause 4) us vs
+told-append false us vs = refl
+
+pub told-length : (r : Bool) (vs : List Move) → length (asTold r vs) ≡ length vs
+unfolding returnMoves
+told-length true vs = length-map vs (withCause 4)
+told-length false vs = refl
 
 -- the move of a place of group g, where its entries differ
 unfoldable pub changeAt : ℕ → ℕ → ℕ → ℕ → ℕ → List Move
@@ -40,15 +61,28 @@ changes-up g old new causes j (suc k) h =
     (λ (l : j < suc k). omega (arith, changes-up g old new causes j k (omega arith), changes-more g old new causes k))
     (eq-or-lt-of-le h)
 
--- with the causes of its places they are the moves of a row
-pub changes-moves : (g : ℕ) (ps qs : List Place) (causes : List ℕ) (k : ℕ) → k ≤ length ps → k ≤ length qs
-    → ((j : ℕ) → j < k → getD causes j 0 ≡ causeOf (parting (getD ps j nowhere .walk) (getD qs j nowhere .walk)))
-    → changesTo g (entriesOf ps) (entriesOf qs) causes k ≡ rowMovesTo g ps qs k
-unfolding changesTo changeAt rowMovesTo moveAt entriesOf
-changes-moves g ps qs causes zero h l c = refl
-changes-moves g ps qs causes (suc k) h l c =
-    rw (getD-mapped (λ (p : Place). p .entry) ps k nowhere 0 (omega arith), getD-mapped (λ (p : Place). p .entry) qs k nowhere 0 (omega arith), c k (omega arith), changes-moves g ps qs causes k (omega arith) (omega arith) (λ j i. c j (omega arith)))
-    refl
+-- with the causes of its places, in a return 04 at each, they are the moves of a row
+change-told : (r : Bool) (g p : ℕ) (a b : Place) → changeAt g p (a .entry) (b .entry) (cond r 4 (causeOf (parting (a .walk) (b .walk)))) ≡ asTold r (moveAt g p a b)
+unfolding changeAt moveAt returnMoves
+change-told false g p a b = refl
+change-told true g p a b = go (eqb (a .entry) (b .entry))
+  where
+    go : (t : Bool) → cond t [] (record { group = g; place = p; old = a .entry; new = b .entry; cause = 4 } ∷ [])
+        ≡ map (withCause 4) (cond t [] (record { group = g; place = p; old = a .entry; new = b .entry; cause = causeOf (parting (a .walk) (b .walk)) } ∷ []))
+    go true = refl
+    go false = refl
+
+pub changes-moves : (r : Bool) (g : ℕ) (ps qs : List Place) (causes : List ℕ) (k : ℕ) → k ≤ length ps → k ≤ length qs
+    → ((j : ℕ) → j < k → getD causes j 0 ≡ cond r 4 (causeOf (parting (getD ps j nowhere .walk) (getD qs j nowhere .walk))))
+    → changesTo g (entriesOf ps) (entriesOf qs) causes k ≡ asTold r (rowMovesTo g ps qs k)
+unfolding changesTo rowMovesTo entriesOf
+changes-moves r g ps qs causes zero h l c = sym (told-none r)
+changes-moves r g ps qs causes (suc k) h l c =
+    let a = getD ps k nowhere in
+    let b = getD qs k nowhere in
+    rw (getD-mapped (λ (p : Place). p .entry) ps k nowhere 0 (omega arith), getD-mapped (λ (p : Place). p .entry) qs k nowhere 0 (omega arith), c k (omega arith))
+    (ap₂ (λ (us vs : List Move). us ++ vs) (changes-moves r g ps qs causes k (omega arith) (omega arith) (λ j i. c j (omega arith))) (change-told r g (suc k) a b)
+    ∙ sym (told-append r (rowMovesTo g ps qs k) (moveAt g (suc k) a b)))
 
 -- ---- bytes
 

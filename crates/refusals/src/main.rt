@@ -8,7 +8,8 @@ fn show(frames: &[u8]) {
 }
 
 fn number(frames: &[u8]) -> u64 {
-    load::load(frames) as u64
+    let r = load::sizes_of(frames);
+    r.number as u64
 }
 
 // Maps that load takes.

@@ -1,5 +1,5 @@
--- Document 01, "Samples": "Each later line, an unended last one too, is one edit." What a line does to the map and the table, and what it
--- prints. Program `operate` is an operator's day on the same map and table: its lines are edits as in `fill`, and two calls more.
+-- Document 01, "Samples": "Each later line, an unended last one too, is one edit." What a line does to the map, the table and the states, and what
+-- it prints. Program `operate` is an operator's day on the same map and table: its lines are edits as in `fill`, and four calls more.
 use mathlib.Core.Bool.{Bool, true, false, cond}
 use mathlib.Core.List.{List, [], _∷_, _++_}
 use Prim.Native.Nat.{ℕ, zero, suc, _*_}
@@ -7,78 +7,106 @@ use lib.Dec.{eqb}
 use lib.ListN.{take}
 use Rattle.definitions.specs.declared.Change.{Change}
 use Rattle.definitions.specs.declared.Change.the-variants.{Acceptance, Weight, Malformed}
-use Rattle.definitions.specs.Map.{Map, mapOf}
+use Rattle.definitions.specs.Map.{mapOf}
 use Rattle.definitions.specs.Rule.{widthOf}
 use Rattle.definitions.specs.Edit.{changeOf}
-use Rattle.definitions.specs.Calls.{EditAnswer, editOf, WriteAnswer, writeOf, fillNumber}
+use Rattle.definitions.specs.Calls.{loadOf, EditAnswer, editOf, StoreAnswer, storeOf, returnOf, WriteAnswer, writeOf, fillNumber}
 use Rattle.protocol.specs.declared.asked.Program.{Program}
 use Rattle.protocol.specs.declared.asked.Asked.{Asked}
-use Rattle.protocol.specs.declared.asked.Asked.the-variants.{Frames, Rows, Nothing}
+use Rattle.protocol.specs.declared.asked.Asked.the-variants.{Frames, Rows, Store, Return, Nothing}
 use Rattle.protocol.specs.Asked.{askedOf}
 use Rattle.protocol.specs.Lines.{refusalLine, rowLines}
 
--- the map, the table and the line under way between two bytes of the input, and what the last one printed
-pub record Session : Type 0 where
+-- what goes on from line to line: the map as its frames, the table, and the named states as their words
+pub record Site : Type 0 where
   pub frames : List ℕ
   pub table : List ℕ
+  pub states : List ℕ
+
+abbrev pub siteOf : List ℕ → List ℕ → List ℕ → Site
+siteOf frames table states = record { frames = frames; table = table; states = states }
+
+-- the site and the line under way between two bytes of the input, and what the last one printed
+pub record Session : Type 0 where
+  pub site : Site
   pub line : List ℕ
   pub printed : List ℕ
+
+-- the states that the lines begin with: "Loading another map empties the states"
+abbrev pub statesAtStart : List ℕ → List ℕ → List ℕ
+statesAtStart frames states = loadOf frames states .states
+
+-- ---- what is printed
+
+-- "or `1f` and the refusal (2)": a call that answers this number prints this text, or its refusal
+unfoldable pub orRefusal : ℕ → List ℕ → List ℕ
+orRefusal zero text = text
+orRefusal (suc k) text = refusalLine (suc k)
+
+-- "each edit's moves": what it has written in the space, 23 bytes each
+abbrev pub movesSaid : EditAnswer → List ℕ
+movesSaid a = orRefusal (a .number) (take (a .moves * 23) (a .space))
+
+-- `2c`: the map as write leaves it in the space
+unfoldable pub framesSaid : WriteAnswer → List ℕ
+framesSaid a = orRefusal (a .number) (take (a .bytes) (a .space))
+
+-- `2d`: the rows of all groups, or the refusal of a map or a table that fill would refuse
+unfoldable pub rowsSaid : List ℕ → List ℕ → List ℕ
+rowsSaid frames table = orRefusal (fillNumber frames table) (rowLines (mapOf frames .groups) 0 (widthOf (mapOf frames)) table)
+
+-- ---- what a line does
 
 unfoldable pub isEdit : Change → Bool
 isEdit (Acceptance d a) = true
 isEdit (Weight d w) = true
 isEdit Malformed = false
 
--- "each edit's moves, or `1f` and the refusal (2)": its moves are what it has written in the space, 23 bytes each
-unfoldable pub printedBy : ℕ → EditAnswer → List ℕ
-printedBy zero a = take (a .moves * 23) (a .space)
-printedBy (suc k) a = refusalLine (suc k)
+-- a line has ended, and its text is printed
+abbrev pub printing : Site → List ℕ → Session
+printing s text = record { site = s; line = []; printed = text }
 
-abbrev pub edited : EditAnswer → Session
-edited a = record { frames = a .frames; table = a .table; line = []; printed = printedBy (a .number) a }
+-- an edit, and a return too: map and table are what it leaves
+abbrev pub edited : List ℕ → EditAnswer → Session
+edited states a = printing (siteOf (a .frames) (a .table) states) (movesSaid a)
 
--- the map as write leaves it in the space, or the refusal of write
-unfoldable pub framesBy : ℕ → WriteAnswer → List ℕ
-framesBy zero a = take (a .bytes) (a .space)
-framesBy (suc k) a = refusalLine (suc k)
+-- a store: the states are what it leaves, and it has nothing to print
+abbrev pub storing : Site → StoreAnswer → Session
+storing s a = printing (siteOf (s .frames) (s .table) (a .states)) (orRefusal (a .number) [])
 
--- the rows of all groups, or the refusal of a map or a table that fill would refuse
-unfoldable pub rowsBy : ℕ → Map → List ℕ → List ℕ
-rowsBy zero m table = rowLines (m .groups) 0 (widthOf m) table
-rowsBy (suc k) m table = refusalLine (suc k)
+-- what it asks for, and else "a line of no edit form prints `1f12`"
+unfoldable pub orderOf : Asked → Site → List ℕ → Session
+orderOf Frames s space = printing s (framesSaid (writeOf (s .frames) space))
+orderOf Rows s space = printing s (rowsSaid (s .frames) (s .table))
+orderOf (Store name) s space = storing s (storeOf (s .frames) (s .states) name)
+orderOf (Return name) s space = edited (s .states) (returnOf (s .frames) (s .table) (s .states) name space)
+orderOf Nothing s space = printing s (refusalLine 18)
 
--- what is printed for it: "a line of no edit form prints `1f12`", unless it asks for something
-unfoldable pub saysOf : Asked → List ℕ → List ℕ → List ℕ → List ℕ
-saysOf Frames frames table space = framesBy (writeOf frames space .number) (writeOf frames space)
-saysOf Rows frames table space = rowsBy (fillNumber frames table) (mapOf frames) table
-saysOf Nothing frames table space = refusalLine 18
+-- a line has ended: an edit is made, and any other line does what it asks for
+unfoldable pub lineOf : Program → Site → List ℕ → List ℕ → Session
+lineOf p s line space =
+    cond (isEdit (changeOf line)) (edited (s .states) (editOf (s .frames) (s .table) line space)) (orderOf (askedOf p line) s space)
 
--- a line has ended: an edit is made; any other line changes nothing
-unfoldable pub lineOf : Program → List ℕ → List ℕ → List ℕ → List ℕ → Session
-lineOf p frames table line space =
-    cond (isEdit (changeOf line)) (edited (editOf frames table line space))
-    (record { frames = frames; table = table; line = []; printed = saysOf (askedOf p line) frames table space })
+-- ---- byte by byte
+
+-- a line under way, and nothing printed
+abbrev pub session : Site → List ℕ → Session
+session s line = record { site = s; line = line; printed = [] }
 
 -- one byte more: the byte 10 ends the line
-unfoldable pub byteOf : Program → List ℕ → List ℕ → List ℕ → ℕ → List ℕ → Session
-byteOf p frames table line b space =
-    cond (eqb b 10) (lineOf p frames table line space)
-    (record { frames = frames; table = table; line = line ++ (b ∷ []); printed = [] })
+unfoldable pub byteOf : Program → Site → List ℕ → ℕ → List ℕ → Session
+byteOf p s line b space = cond (eqb b 10) (lineOf p s line space) (session s (line ++ (b ∷ [])))
 
 -- what is printed stands behind what was printed before
 abbrev pub behind : List ℕ → Session → Session
-behind before s = record { frames = s .frames; table = s .table; line = s .line; printed = before ++ s .printed }
+behind before s = record { site = s .site; line = s .line; printed = before ++ s .printed }
 
 -- bytes, one after the other
 unfoldable pub bytesOf : Program → List ℕ → Session → List ℕ → Session
 bytesOf p space s [] = s
-bytesOf p space s (b ∷ bs) = bytesOf p space (behind (s .printed) (byteOf p (s .frames) (s .table) (s .line) b space)) bs
-
--- nothing is printed yet
-abbrev pub session : List ℕ → List ℕ → List ℕ → Session
-session frames table line = record { frames = frames; table = table; line = line; printed = [] }
+bytesOf p space s (b ∷ bs) = bytesOf p space (behind (s .printed) (byteOf p (s .site) (s .line) b space)) bs
 
 -- the input has ended: "an unended last one too"
-unfoldable pub endOf : Program → List ℕ → List ℕ → List ℕ → List ℕ → Session
-endOf p frames table [] space = record { frames = frames; table = table; line = []; printed = [] }
-endOf p frames table (b ∷ line) space = lineOf p frames table (b ∷ line) space
+unfoldable pub endOf : Program → Site → List ℕ → List ℕ → Session
+endOf p s [] space = session s []
+endOf p s (b ∷ line) space = lineOf p s (b ∷ line) space

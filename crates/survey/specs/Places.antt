@@ -13,6 +13,7 @@ use Rattle.definitions.specs.Walk.{hole}
 use Rattle.definitions.specs.Select.{Place, entriesOf, nowhere}
 use Rattle.definitions.specs.Rule.{runTo, padded}
 use Rattle.definitions.specs.Edit.{rowMovesTo}
+use Rattle.laws.specs.Lists.{same-is}
 use Rattle.hierarchy.specs.declared.Rule.{Rule}
 use Rattle.hierarchy.specs.Arrays.{viewIn, actionsIn}
 use Rattle.blocks.specs.Products.{emittedTo}
@@ -24,7 +25,7 @@ use Rattle.survey.specs.declared.looks.Glance.{Glance}
 use Rattle.survey.specs.declared.looks.Glance.the-variants.{Stale, Moves}
 use Rattle.survey.specs.declared.looks.Reach.{Reach}
 use Rattle.survey.specs.declared.looks.Reach.the-variants.{Anywhere, Before, After}
-use Rattle.survey.specs.Rows.{differTo, differ-same, differ-moves, same-rows, same-is}
+use Rattle.survey.specs.Rows.{differTo, differ-same, differ-moves, same-rows}
 
 -- the list of group x, by the rule over a plan and values
 abbrev pub listAt : List ℕ → List ℕ → Rule → ℕ → List Place

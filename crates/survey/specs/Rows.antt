@@ -1,6 +1,6 @@
 -- Two rows, place by place, and the moves of a row. Assumes nothing.
-use mathlib.Core.Path.{_≡_, refl, sym, ap, ap₂, _∙_}
-use mathlib.Core.Bool.{Bool, true, false, cond, false≢true}
+use mathlib.Core.Path.{_≡_, refl, sym, ap, _∙_}
+use mathlib.Core.Bool.{Bool, true, false, cond}
 use mathlib.Core.List.{List, [], _∷_, _++_}
 use mathlib.Core.Logic.{⊎-elim}
 use Prim.Native.Nat.{ℕ, zero, suc, _+_, _<_, _≤_}
@@ -15,7 +15,7 @@ use Rattle.definitions.specs.declared.Move.{Move}
 use Rattle.definitions.specs.Lists.{same}
 use Rattle.definitions.specs.Select.{Place, entriesOf, nowhere}
 use Rattle.definitions.specs.Edit.{moveAt, rowMovesTo}
-use Rattle.laws.specs.Lists.{both, and-both, getD-mapped}
+use Rattle.laws.specs.Lists.{getD-mapped}
 
 -- how many of the first k places differ
 unfoldable pub differTo : List ℕ → List ℕ → ℕ → ℕ
@@ -84,22 +84,6 @@ same-rows g w ps qs a b e =
     (λ i h. same-places (entriesOf ps) (entriesOf qs) w (differ-moves g ps qs w (omega (arith, a, m)) (omega (arith, b, n)) ∙ ap length e) i (omega (arith, a, h)))
 
 -- ---- the same rows
-
-pub same-is : (xs ys : List ℕ) → same xs ys ≡ true → xs ≡ ys
-unfolding same
-same-is [] [] e = refl
-same-is [] (y ∷ ys) e = absurd (false≢true e)
-same-is (x ∷ xs) [] e = absurd (false≢true e)
-same-is (x ∷ xs) (y ∷ ys) e =
-    let (p, q) = both (eqb x y) (same xs ys) e in ap₂ (λ (z : ℕ) (zs : List ℕ). z ∷ zs) (eqb-true x y p) (same-is xs ys q)
-
-pub is-same : (xs ys : List ℕ) → xs ≡ ys → same xs ys ≡ true
-unfolding same
-is-same xs ys e = rw e (go ys)
-  where
-    go : (zs : List ℕ) → same zs zs ≡ true
-    go [] = refl
-    go (z ∷ zs) = and-both (eq-eqb z z refl) (go zs)
 
 -- a loop that compares from the front
 module _ (xs ys : List ℕ) (i : ℕ) where

@@ -15,10 +15,10 @@ use Rattle.definitions.specs.declared.Move.{Move}
 use Rattle.definitions.specs.Lists.{same}
 use Rattle.definitions.specs.Select.{Place, entriesOf}
 use Rattle.definitions.specs.Edit.{rowMovesTo}
+use Rattle.laws.specs.Lists.{same-is, is-same}
 use Rattle.survey.specs.declared.looks.Glance.{Glance}
 use Rattle.survey.specs.declared.looks.Glance.the-variants.{Stale, Moves}
 use Rattle.survey.specs.declared.surveys.Findings.{Findings}
-use Rattle.survey.specs.Rows.{same-is, is-same}
 use Rattle.survey.specs.Places.{Looked}
 
 -- the rows of the groups below n, one behind the other; f gives the places of a group

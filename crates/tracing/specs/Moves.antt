@@ -117,7 +117,7 @@ module _ (m m′ : Map) (same : m′ .groups ≡ m .groups) where
   moves-is = rw (runs-count m (m .groups))
 
   -- a move is that of a place whose entries differ
-  move-of : (v : Move) → List·Memᴰ v (movesOf m m′)
+  pub move-of : (v : Move) → List·Memᴰ v (movesOf m m′)
       → (g : ℕ) × (j : ℕ) × (g < m .groups) × (j < widthOf m) × (v ≡ moveOf g (suc j) (listedAt m g j) (listedAt m′ g j)) × (listedAt m g j .entry ≡ listedAt m′ g j .entry → ⊥)
   move-of v i =
       let (g, h, r) = moves-row (widthOf m) (runsOf m) (runsOf m′) (m .groups) v (rw moves-is at i) in
@@ -125,7 +125,7 @@ module _ (m m′ : Map) (same : m′ .groups ≡ m .groups) where
       (g, j, h, l, e, f)
 
   -- and every such place has its move
-  of-move : (g j : ℕ) → g < m .groups → j < widthOf m → (listedAt m g j .entry ≡ listedAt m′ g j .entry → ⊥)
+  pub of-move : (g j : ℕ) → g < m .groups → j < widthOf m → (listedAt m g j .entry ≡ listedAt m′ g j .entry → ⊥)
       → List·Memᴰ (moveOf g (suc j) (listedAt m g j) (listedAt m′ g j)) (movesOf m m′)
   of-move g j h l f =
       rw moves-is
@@ -191,7 +191,7 @@ row-rises us g olds news e h (suc k) =
         (List·Memᴰ·append-cases us i)
 
 -- the moves of one group more
-moves-rise : (w : ℕ) (olds news : List Placed) (n : ℕ) → linked moveBelow (movesTo w olds news n) ≡ true
+pub moves-rise : (w : ℕ) (olds news : List Placed) (n : ℕ) → linked moveBelow (movesTo w olds news n) ≡ true
 unfolding movesTo rowMoves linked
 moves-rise w olds news zero = refl
 moves-rise w olds news (suc n) =

@@ -1,7 +1,8 @@
-// Compares the engine with a CRUSH by another hand. The file `cases` of data/ holds maps with edits and what that CRUSH gave for each:
-// the rows as program `fill` prints them, a frame `12` with the tries (8) behind each row of a group below 64, what each edit prints, and
-// the map that is left; or the one refusal of load or fill. Beside each edit of an acceptance stands its ceiling.
+// Compares the engine with a CRUSH by another hand. The file `cases` of data/ holds maps with edits and other calls and what that CRUSH gave for
+// each: the rows as program `fill` prints them, a frame `12` with the tries (8) behind each row of a group below 64, what each call prints, as in
+// program `operate`, and the map that is left; or the one refusal of load or fill. Beside each edit of an acceptance stands its ceiling.
 mod limits;
+mod loads;
 
 ghost use mathlib.Core.Path.{_≡_};
 ghost use Prim.Native.Nat.{_+_, _*_, _≤_};
@@ -9,6 +10,7 @@ ghost use lib.ListN.{length};
 use frames::digits;
 use libc::STDOUT_FILENO;
 use limits::Limits;
+use loads::Load;
 use protocol::asked::Program;
 use report::edits;
 use report::edits::Line;
@@ -19,7 +21,7 @@ const LOST: usize = usize::MAX;
 // Tries are compared for the groups below this.
 const TRIED: u32 = 64;
 
-// The edits of a case: the line under way, how many of the bytes wanted were met, and the ceilings.
+// The calls of a case: the line under way, how many of the bytes wanted were met, and the ceilings.
 struct Step {
     line: Line,
     at: usize,
@@ -74,6 +76,13 @@ fn table_space() -> [u16; 32768]
     [0; 32768]
 }
 
+// Words that are no states before a map is loaded.
+fn state_space() -> [u32; 24586]
+    ensures { λ r. ⌜ 24586 ≡ length r ⌝ }
+{
+    [7; 24586]
+}
+
 fn row_space() -> [u16; 32]
     ensures { λ r. ⌜ 32 ≡ length r ⌝ }
 {
@@ -112,10 +121,18 @@ fn front_agrees(space: &[u8], n: usize, want: &[u8], at: usize) -> usize
     agree(want, at, &space[..n])
 }
 
-fn refusal_agrees(number: u32, want: &[u8]) -> usize {
+fn refusal_agrees(number: u32, want: &[u8], at: usize) -> usize {
     let mut line = [0u8; 5];
     protocol::printed::refusal_line(number, &mut line);
-    agree(want, 0, &line)
+    agree(want, at, &line)
+}
+
+// What a call prints that prints its refusal only.
+fn number_agrees(number: u32, want: &[u8], at: usize) -> usize {
+    if number == 0 {
+        return at;
+    }
+    refusal_agrees(number, want, at)
 }
 
 // A frame of tries.
@@ -206,10 +223,11 @@ fn table_agrees(map: &[u8], table: &[u16], groups: u32, w: usize, want: &[u8]) -
     rows_agree(map, table, groups, w, &mut row[..w], &mut line[..n], want)
 }
 
-// What a byte of the edits leads to.
-fn take_byte(
+// What a byte of the calls leads to that loads no map.
+fn take_other(
     map: &mut [u8],
     table: &mut [u16],
+    states: &mut [u32; 24586],
     s: Step,
     b: u8,
     space: &mut [u8],
@@ -221,7 +239,7 @@ fn take_byte(
 {
     let l = s.line;
     let before = limits::before_byte(map, table, l, b);
-    let turn = edits::on_byte(Program::Fill, map, table, l, b, space);
+    let turn = edits::on_byte(Program::Operate, map, table, states, l, b, space);
     let printed = turn.said.bytes;
     let at = front_agrees(space, printed, want, s.at);
     let line = turn.line;
@@ -230,9 +248,44 @@ fn take_byte(
     Step { line, at, limits }
 }
 
+// The end of a line that loaded a map.
+fn after_load(s: Step, number: u32, want: &[u8]) -> Step
+    ensures { λ r. ⌜ r .line .count ≤ 15 ⌝ }
+{
+    let limits = s.limits;
+    Step {
+        line: edits::no_line(),
+        at: number_agrees(number, want, s.at),
+        limits,
+    }
+}
+
+// What a byte of the calls leads to.
+fn take_byte(
+    map: &mut [u8],
+    table: &mut [u16],
+    states: &mut [u32; 24586],
+    s: Step,
+    b: u8,
+    space: &mut [u8],
+    want: &[u8],
+    case: u64,
+) -> Step
+    requires { ⌜ (5 ≤ length (now space)) × (s .line .count ≤ 15) ⌝ }
+    ensures { λ r. ⌜ r .line .count ≤ 15 ⌝ }
+{
+    let l = s.line;
+    match loads::load_at(l, b) {
+        Load::Whole => after_load(s, loads::whole(map, states), want),
+        Load::Short => after_load(s, loads::short(map, states), want),
+        Load::Neither => take_other(map, table, states, s, b, space, want, case),
+    }
+}
+
 fn take_bytes(
     map: &mut [u8],
     table: &mut [u16],
+    states: &mut [u32; 24586],
     first: Step,
     given: &[u8],
     space: &mut [u8],
@@ -245,16 +298,17 @@ fn take_bytes(
     let mut s = first;
     let mut i: usize = 0;
     while i < given.len() {
-        s = take_byte(map, table, s, given[i], space, want, case);
+        s = take_byte(map, table, states, s, given[i], space, want, case);
         i += 1;
     }
     s
 }
 
-// The end of the edits: a last line that is not ended is one too.
+// The end of the calls: a last line that is not ended is one too.
 fn end_agrees(
     map: &mut [u8],
     table: &mut [u16],
+    states: &mut [u32; 24586],
     s: Step,
     space: &mut [u8],
     want: &[u8],
@@ -264,7 +318,7 @@ fn end_agrees(
 {
     let l = s.line;
     let before = limits::before_line(map, table, l);
-    let said = edits::on_end(Program::Fill, map, table, l, space);
+    let said = edits::on_end(Program::Operate, map, table, states, l, space);
     let printed = said.bytes;
     let at = front_agrees(space, printed, want, s.at);
     let so_far = s.limits;
@@ -272,10 +326,11 @@ fn end_agrees(
     Met { at, limits }
 }
 
-// All edits, with the 64 KiB that `fill` lends to the moves.
-fn edits_agree(
+// All calls, with the 64 KiB that `fill` lends to the moves.
+fn calls_agree(
     map: &mut [u8],
     table: &mut [u16],
+    states: &mut [u32; 24586],
     given: &[u8],
     want: &[u8],
     first: Met,
@@ -288,8 +343,8 @@ fn edits_agree(
         at: first.at,
         limits,
     };
-    let last = take_bytes(map, table, begun, given, &mut space, want, case);
-    end_agrees(map, table, last, &mut space, want, case)
+    let last = take_bytes(map, table, states, begun, given, &mut space, want, case);
+    end_agrees(map, table, states, last, &mut space, want, case)
 }
 
 // The map as it is written.
@@ -339,9 +394,10 @@ fn size(groups: u32, w: usize) -> usize
     wide(groups) * w
 }
 
-// What is left of a case whose edits were met so far: the edited map loads, and the edited table is what filling it gives.
+// What is left of a case whose calls were met so far: the map loads, and the table is what filling it gives.
 fn left_agrees(map: &[u8], table: &[u16], want: &[u8], at: usize) -> usize {
-    if engine::load::load(map) != 0 {
+    let sizes = engine::load::sizes_of(map);
+    if sizes.number != 0 {
         return LOST;
     }
     if !is_fresh(map, table) {
@@ -350,7 +406,7 @@ fn left_agrees(map: &[u8], table: &[u16], want: &[u8], at: usize) -> usize {
     written_agrees(map, want, at)
 }
 
-// All that the engine answers to a map and its edits; t are the ceilings so far.
+// All that the engine answers to a map and its calls; t are the ceilings so far.
 fn answers_agree(
     map: &mut [u8],
     given: &[u8],
@@ -360,10 +416,11 @@ fn answers_agree(
     case: u64,
     t: Limits,
 ) -> Met {
-    let number = engine::load::load(map);
-    if number != 0 {
+    let mut states = state_space();
+    let sizes = engine::load::load(map, &mut states);
+    if sizes.number != 0 {
         return Met {
-            at: refusal_agrees(number, want),
+            at: refusal_agrees(sizes.number, want, 0),
             limits: t,
         };
     }
@@ -371,9 +428,15 @@ fn answers_agree(
     let filled = engine::fill::fill(map, &mut table);
     if filled.number != 0 {
         return Met {
-            at: refusal_agrees(filled.number, want),
+            at: refusal_agrees(filled.number, want, 0),
             limits: t,
         };
+    }
+    if sizes.groups != groups {
+        return lost(t);
+    }
+    if wide(sizes.places) != w {
+        return lost(t);
     }
     if w > 32 {
         return lost(t);
@@ -389,10 +452,10 @@ fn answers_agree(
         at: table_agrees(map, &table, groups, w, want),
         limits: t,
     };
-    let edited = edits_agree(map, &mut table, given, want, rows, case);
-    let limits = edited.limits;
+    let last = calls_agree(map, &mut table, &mut states, given, want, rows, case);
+    let limits = last.limits;
     Met {
-        at: left_agrees(map, &table, want, edited.at),
+        at: left_agrees(map, &table, want, last.at),
         limits,
     }
 }
@@ -411,7 +474,7 @@ fn number(head: &[u8; 41], at: usize) -> usize
     wide(digits::field(head, at, 8))
 }
 
-// Reads the map, the edits and the answer of a case.
+// Reads the map, the calls and the answer of a case.
 fn read_all(
     fd: i32,
     map: &mut [u8],

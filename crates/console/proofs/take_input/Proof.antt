@@ -2,27 +2,44 @@
 use mathlib.Core.Path.{_≡_, refl, sym, _∙_}
 use mathlib.Core.Bool.{false≢true}
 use mathlib.Core.List.{List, [], _++_}
-use Prim.Native.Nat.{ℕ, _≤_}
+use Prim.Native.Nat.{ℕ}
 use lib.ListN.{length, take}
 use lib.Seq.{length-take-le}
 use borrow.Author.Tests.{not-true, not-false}
-use Rattle.report.specs.Edits.{session, bytesOf}
-use Rattle.report.specs.Kept.{Keeps}
+use Rattle.report.specs.Edits.{Site, siteOf, session, bytesOf}
+use Rattle.report.specs.Kept.{Short, Keeps}
 use Rattle.report.specs.Reads.{Led, led-none, led-more}
 use borrow.Author.Needs.{needs}
 use Rattle.console.proofs.take_input.Statement.{statement}
 use Rattle.console.proofs.take_input.Tie as tie
 
 abbrev Inv-loop : tie.InvT-loop
-Inv-loop p map₀ table₀ buffer₀ space₀ l₀ turns₀ map table buffer space l turns = (length map ≡ length map₀) × (length table ≡ length table₀) × (length buffer ≡ length buffer₀) × (length space ≡ length space₀) × (l .count ≤ 15) × ((xs : List ℕ) → Keeps l₀ xs → (bs : List ℕ) × Led l map table (bytesOf p space₀ (session map₀ table₀ xs) bs))
+Inv-loop p map₀ table₀ states₀ buffer₀ space₀ l₀ turns₀ map table states buffer space l turns = (length map ≡ length map₀) × (length table ≡ length table₀) × (length buffer ≡ length buffer₀) × (length space ≡ length space₀) × Short l × ((xs : List ℕ) → Keeps l₀ xs → (bs : List ℕ) × Led l (siteOf map table states) (bytesOf p space₀ (session (siteOf map₀ table₀ states₀) xs) bs))
 
 abbrev μ-loop : tie.MeasureT-loop
-μ-loop p map₀ table₀ buffer₀ space₀ l₀ turns₀ map table buffer space l turns = turns
+μ-loop p map₀ table₀ states₀ buffer₀ space₀ l₀ turns₀ map table states buffer space l turns = turns
+
+-- the places of the code, from behind them
+abbrev begin : tie.At-loop Inv-loop μ-loop → tie.Start Inv-loop μ-loop
+begin l = l .before .before .before .before .before
+
+abbrev read : tie.After-take-bytes Inv-loop μ-loop → tie.After-read-some Inv-loop μ-loop
+read b = b .before .before .before .before .before .before .before .before .before
+
+-- what goes on from line to line: as it is lent, at the head of the loop, and behind a turn
+abbrev here : tie.Start Inv-loop μ-loop → Site
+here s = siteOf (s .args .map .now) (s .args .table .now) (s .args .states .now)
+
+abbrev at : tie.At-loop Inv-loop μ-loop → Site
+at l = siteOf (l .loop .map) (l .loop .table) (l .loop .states)
+
+abbrev next : tie.After-take-bytes Inv-loop μ-loop → Site
+next b = let x = b .take-bytes .last in siteOf (x .1 .0) (x .1 .1 .0) (x .1 .1 .1 .0)
 
 loop-holds : tie.Need-loop-holds Inv-loop μ-loop
 loop-holds c =
     let s = c .before .before .before .before in
-    (refl, refl, refl, refl, s .pre .1, λ xs k. ([], led-none (s .args .p) (s .args .line) (s .args .map .now) (s .args .table .now) (s .args .space .now) xs k))
+    (refl, refl, refl, refl, s .pre .1, λ xs k. ([], led-none (s .args .p) (s .args .line) (here s) (s .args .space .now) xs k))
 
 read-some-requires : tie.Need-read-some-requires Inv-loop μ-loop
 read-some-requires c κs = search needs
@@ -75,13 +92,11 @@ loop-less c = search needs
 loop-again : tie.Need-loop-again Inv-loop μ-loop
 loop-again c =
     let b = c .before .before .before .before .before .before .before .before .before in
-    let r = b .before .before .before .before .before .before .before .before in
+    let r = read b in
     let l = r .before .before .before in
-    let s = l .before .before .before .before .before in
+    let s = begin l in
     let e = b .take-bytes .ensures in
-    let new = take (r .read-some .result .count) (r .read-some .last .1 .0) in
-    let map = b .take-bytes .last .1 .0 in
-    let table = b .take-bytes .last .1 .1 .0 in (
+    let new = take (r .read-some .result .count) (r .read-some .last .1 .0) in (
       search needs,
       search needs,
       search needs,
@@ -90,7 +105,7 @@ loop-again c =
       λ xs k.
           let u = l .loop .inv .5 xs k in (
             u .0 ++ new,
-            led-more (s .args .p) (s .args .space .now) (l .loop .space) (l .loop .inv .3) (session (s .args .map .now) (s .args .table .now) xs) (u .0) new (l .loop .l) (b .take-bytes .result .line) (l .loop .map) (l .loop .table) map table (u .1)
+            led-more (s .args .p) (s .args .space .now) (l .loop .space) (l .loop .inv .3) (session (here s) xs) (u .0) new (l .loop .l) (b .take-bytes .result .line) (at l) (next b) (u .1)
                 (e .1 _ (u .1 .line) (not-false _ (c .before .if2 .left))),
           ),
     )

@@ -1,7 +1,8 @@
 -- `editing::pair_of` meets its contract: over one plan the values give both views. Assumes nothing.
+use mathlib.Core.Path.{sym}
 use Rattle.definitions.specs.Map.{Map, mapOf}
 use Rattle.definitions.specs.Edit.{put}
-use Rattle.laws.specs.Loadable.{put-loadable}
+use Rattle.laws.specs.Loadable.{put-loadable, put-actions}
 use Rattle.text.specs.Agreement.{loaded-map}
 use Rattle.compile.specs.Reading.{Readable, readable, no-edit}
 use Rattle.editing.specs.Paired.{paired}
@@ -44,7 +45,7 @@ returns c =
     let s = r .before .before .before in
     let w = o .weigh .ensures in
     let v = n .weigh2 .ensures in
-    paired (old s) (s .args .c) _ _ _ _ _ (w .0) (v .0) (v .1 .0) (w .1 .1 .0) (w .1 .1 .1) (v .1 .1 .1) (r .rule-of .ensures)
+    paired (old s) (put (old s) (s .args .c)) _ _ _ _ _ (sym (put-actions (old s) (s .args .c))) (w .0) (v .0) (v .1 .0) (w .1 .1 .0) (w .1 .1 .1) (v .1 .1 .1) (r .rule-of .ensures)
 
 pub pair-of-spec : {M : Type 1} → statement M
 pair-of-spec =

@@ -8,10 +8,10 @@ use Rattle.vectors.proofs.take_bytes.Statement.{statement}
 use Rattle.vectors.proofs.take_bytes.Tie as tie
 
 abbrev Inv-loop : tie.InvT-loop
-Inv-loop map₀ table₀ given space₀ want case s₀ i₀ map table space s i = (i ≤ length given) × (length given < 18446744073709551616) × (length map ≡ length map₀) × (length table ≡ length table₀) × (length space ≡ length space₀) × (s .line .count ≤ 15)
+Inv-loop map₀ table₀ states₀ given space₀ want case s₀ i₀ map table states space s i = (i ≤ length given) × (length given < 18446744073709551616) × (length map ≡ length map₀) × (length table ≡ length table₀) × (length space ≡ length space₀) × (s .line .count ≤ 15)
 
 abbrev μ-loop : tie.MeasureT-loop
-μ-loop map₀ table₀ given space₀ want case s₀ i₀ map table space s i = length given - i
+μ-loop map₀ table₀ states₀ given space₀ want case s₀ i₀ map table states space s i = length given - i
 
 loop-holds : tie.Need-loop-holds Inv-loop μ-loop
 loop-holds c = search needs
@@ -24,7 +24,7 @@ take-byte-requires c κs = search needs
 
 add-i : tie.Need-add-i Inv-loop μ-loop
 add-i c =
-    let t = c .before .before .before .before .before .before .before .before .before .before .before in
+    let t = c .before .before .before .before .before .before .before .before .before .before .before .before in
     omega (arith, t .loop-test .taken, t .before .loop .inv .1)
 
 loop-less : tie.Need-loop-less Inv-loop μ-loop

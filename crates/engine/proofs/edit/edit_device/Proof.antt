@@ -10,7 +10,7 @@ use Rattle.definitions.specs.Edit.{put}
 use Rattle.text.specs.Agreement.{loaded-map}
 use Rattle.survey.specs.Between.{Between, Answers, few, selects, old-long, new-long}
 use Rattle.survey.specs.Surveyed.{fresh-rows}
-use Rattle.editing.specs.Paired.{Asked, between, both-run}
+use Rattle.editing.specs.Paired.{Asked, asked-edit, between, both-run}
 use Rattle.editing.specs.Reaching.{reaches}
 use Rattle.engine.specs.Editing.{room-for, stale, short, done}
 use borrow.Author.Needs.{needs}
@@ -26,15 +26,8 @@ abbrev new : tie.Start → Map
 new s = put (old s) (s .args .c)
 
 -- what is known of the two
-asked : (s : tie.Start) → Asked (old s) (s .args .c) (s .args .groups) (s .args .w)
-asked s =
-    record {
-      loadable = loaded-map _ (s .pre .0 .0);
-      fit = s .pre .1 .0 .0;
-      only = s .pre .0 .2;
-      groups = s .pre .1 .1 .0;
-      width = s .pre .1 .1 .1;
-    }
+asked : (s : tie.Start) → Asked (old s) (new s) (s .args .groups) (s .args .w)
+asked s = asked-edit (old s) (s .args .c) _ _ (loaded-map _ (s .pre .0 .0)) (s .pre .1 .0 .0) (s .pre .0 .2) (s .pre .1 .1 .0) (s .pre .1 .1 .1)
 
 room : (s : tie.Start) → old s .groups * widthOf (old s) ≤ length (s .args .table .now)
 room s = subst (λ (n : ℕ). n ≤ length (s .args .table .now)) (ap₂ (λ (a b : ℕ). a * b) (s .pre .1 .1 .0) (s .pre .1 .1 .1)) (s .pre .1 .1 .2)
@@ -49,7 +42,7 @@ start c = c .before .before .before .before .before
 maps : (c : tie.After-pair-of) → let s = start c in
     let p = c .pair-of .result in
     Between (p .plan) (p .old) (p .new) (p .rule) (s .args .groups) (s .args .w) (old s) (new s)
-maps c = let s = start c in between (old s) (s .args .c) _ _ (c .pair-of .result) (c .pair-of .ensures) (asked s)
+maps c = let s = start c in between (old s) (new s) _ _ (c .pair-of .result) (c .pair-of .ensures) (asked s)
 
 -- what the survey answers of the two maps
 answers : (c : tie.After-survey-edit) → let s = start (pair c) in Answers (old s) (new s) (s .args .table .now) (c .survey-edit .result)
@@ -66,7 +59,7 @@ survey-edit-requires : tie.Need-survey-edit-requires
 survey-edit-requires c κs =
     let k = c .before .before .before .before .before .before in
     let s = start k in
-    (both-run (old s) (s .args .c) _ _ (k .pair-of .result) (k .pair-of .ensures) (asked s), (few (old s) (new s) (maps k), s .pre .1 .1 .2, reaches (old s) (s .args .c) _ _ (k .pair-of .result) (k .pair-of .ensures) (asked s)))
+    (both-run (old s) (new s) _ _ (k .pair-of .result) (k .pair-of .ensures) (asked s), (few (old s) (new s) (maps k), s .pre .1 .1 .2, reaches (old s) (s .args .c) _ _ (k .pair-of .result) (k .pair-of .ensures) (asked s) (s .pre .1 .0 .0)))
 
 refused-requires : tie.Need-refused-requires
 refused-requires c κs = search needs
@@ -110,7 +103,7 @@ apply-requires c κs =
     let k = pair v in
     let s = start k in
     let b = maps k in
-    let r = both-run (old s) (s .args .c) _ _ (k .pair-of .result) (k .pair-of .ensures) (asked s) in
+    let r = both-run (old s) (new s) _ _ (k .pair-of .result) (k .pair-of .ensures) (asked s) in
     let g = few (old s) (new s) b in
     let S = v .survey-edit .ensures .0 in
     let fresh : v .survey-edit .result .fresh ≡ true = not-false _ (t .before .if1 .left) in (

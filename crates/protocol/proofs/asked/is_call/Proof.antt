@@ -1,7 +1,7 @@
 -- `protocol::asked::is_call` meets its contract: two bytes, each the one asked for. Assumes nothing.
 use mathlib.Core.Path.{sym}
 use borrow.Author.Tests.{eq-eqb, ne-eqb}
-use Rattle.protocol.specs.TwoBytes.{other, call-two}
+use Rattle.protocol.specs.Forms.{other, call-two}
 use borrow.Author.Needs.{needs}
 use Rattle.protocol.proofs.asked.is_call.Statement.{statement}
 use Rattle.protocol.proofs.asked.is_call.Tie as tie

@@ -18,10 +18,15 @@ returns-2 : tie.Need-returns-2
 unfolding askedOf
 returns-2 c = rw (← c .before .before .before .is-call .ensures, c .before .before .if1 .left, ← c .before .is-call2 .ensures, c .if2 .taken)
 
+named-requires : tie.Need-named-requires
+named-requires c κs = search needs
+
 returns-3 : tie.Need-returns-3
 unfolding askedOf
-returns-3 c = rw (← c .before .before .before .is-call .ensures, c .before .before .if1 .left, ← c .before .is-call2 .ensures, c .if2 .left)
+returns-3 c =
+    let e = c .before in
+    rw (← e .before .before .before .is-call .ensures, e .before .before .if1 .left, ← e .before .is-call2 .ensures, e .if2 .left) (c .named .ensures)
 
 pub operates-spec : {M : Type 1} → statement M
 operates-spec =
-    tie.close (tie.spec is-call-requires returns is-call-requires-2 returns-2 returns-3)
+    tie.close (tie.spec is-call-requires returns is-call-requires-2 returns-2 named-requires returns-3)

@@ -4,10 +4,15 @@ use Prim.Native.Nat.{_^_, _<_}
 use native.Mathlib.Omega.{arith}
 use lib.ListN.{length, take}
 use Rattle.report.specs.Says.{says-none}
+use Rattle.report.specs.Edits.{Site, siteOf}
 use Rattle.report.specs.Reads.{run-none, run-byte}
 use borrow.Author.Needs.{needs}
 use Rattle.report.proofs.edits.on_bytes.Statement.{statement}
 use Rattle.report.proofs.edits.on_bytes.Tie as tie
+
+-- what goes on from line to line, as it is lent
+abbrev here : tie.Start → Site
+here s = siteOf (s .args .map .now) (s .args .table .now) (s .args .states .now)
 
 add-requires : tie.Need-add-requires
 add-requires c κs = search needs
@@ -17,7 +22,7 @@ returns c =
     let a = c .before .before .before in
     let s = a .before .before .before .before .before in
     let e = a .add .ensures in
-    rw (c .front .ensures) (e .0, says-none (s .args .table .now) (s .args .space .now) .within, omega (arith, s .pre .2, c .before .if1 .taken), e .1, λ xs k. run-none (s .args .p) _ (s .args .map .now) (s .args .table .now) (s .args .space .now) xs _ (e .2) (e .3 xs k))
+    rw (c .front .ensures) (e .0, says-none (s .args .table .now) (s .args .space .now) .within, omega (arith, s .pre .2, c .before .if1 .taken), e .1, λ xs k. run-none (s .args .p) _ (here s) (s .args .space .now) xs _ (e .2) (e .3 xs k))
 
 front-requires : tie.Need-front-requires
 front-requires c κs = search needs
@@ -32,11 +37,11 @@ on-byte-requires c κs = search needs
 fits : (s : tie.Start) → length (s .args .read .now) < 2 ^ 64
 fits s = search (needs, s .good)
 
-add-t11 : tie.Need-add-t11
-add-t11 c =
+add-t12 : tie.Need-add-t12
+add-t12 c =
     let b = c .before .before .before .before .before .before in
-    let a = b .before .before .before .before .before .before .before in
-    omega (arith, a .add .ensures .1, b .before .before .before .before .before .if1 .left, fits (a .before .before .before .before .before))
+    let a = b .before .before .before .before .before .before .before .before in
+    omega (arith, a .add .ensures .1, b .before .before .before .before .before .before .if1 .left, fits (a .before .before .before .before .before))
 
 same-length : tie.Need-same-length
 same-length c = search needs
@@ -50,17 +55,17 @@ same-length-3 c = search needs
 returns-2 : tie.Need-returns-2
 returns-2 c =
     let b = c .before .before .before .before .before .before in
-    let a = b .before .before .before .before .before .before .before in
+    let a = b .before .before .before .before .before .before .before .before in
     let s = a .before .before .before .before .before in
     let read = s .args .read .now in
     let e = a .add .ensures in
     let n = a .add .result .used in
-    let i : n < length read = omega (arith, e .1, b .before .before .before .before .before .if1 .left) in (
+    let i : n < length read = omega (arith, e .1, b .before .before .before .before .before .before .if1 .left) in (
       b .on-byte .ensures .0,
       b .on-byte .ensures .1,
       omega arith,
       omega (arith, i),
-      λ xs k. run-byte (s .args .p) _ (s .args .map .now) (s .args .table .now) (s .args .space .now) xs read n _ _ _ i (e .2) (b .on-byte .ensures .2 (xs ++ take n read) (e .3 xs k)),
+      λ xs k. run-byte (s .args .p) _ (here s) (s .args .space .now) xs read n _ _ i (e .2) (b .on-byte .ensures .2 (xs ++ take n read) (e .3 xs k)),
     )
 
 pub on-bytes-spec : {M : Type 1} → statement M
@@ -72,7 +77,7 @@ on-bytes-spec =
     returns
     shared-slice-read-on-byte
     on-byte-requires
-    add-t11
+    add-t12
     same-length
     same-length-2
     same-length-3

@@ -18,8 +18,8 @@ returns c =
     let r = c .before .before in
     let t = r .before .before in
     let w = t .before .before .before .before in
-    let s = w .before .before .before .before .before in
-    rw (frames-refused (s .args .map .now) (s .args .table .now) (s .args .space .now) _ (w .write .ensures) (t .if1 .taken)) (r .refuse .ensures _)
+    let s = w .before .before .before .before in
+    λ table. rw (frames-refused (s .args .map .now) (s .args .space .now) _ (w .write .ensures) (t .if1 .taken)) (r .refuse .ensures table)
 
 front-requires : tie.Need-front-requires
 front-requires c κs = search needs
@@ -31,8 +31,8 @@ returns-2 : tie.Need-returns-2
 returns-2 c =
     let l = c .before in
     let w = l .before .before .before .before in
-    let s = w .before .before .before .before .before in
-    rw (c .front .ensures) (frames-done (s .args .map .now) (s .args .table .now) (s .args .space .now) _ (w .write .ensures) (l .if1 .left))
+    let s = w .before .before .before .before in
+    rw (c .front .ensures) (frames-done (s .args .map .now) (s .args .space .now) _ (w .write .ensures) (l .if1 .left))
 
 pub say-frames-spec : {M : Type 1} → statement M
 say-frames-spec =

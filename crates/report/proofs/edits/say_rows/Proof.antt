@@ -36,7 +36,7 @@ returns c =
     let r = c .before .before in
     let t = r .before .before in
     let s = t .before .before .before .before .before .before in
-    rw (rows-14 (s .args .map .now) (s .args .table .now) (s .args .space .now) (refused (s .args .map .now) _ (t .before .before .sizes-of .ensures) (t .if1 .taken))) (r .refuse .ensures _)
+    rw (rows-14 (s .args .map .now) (s .args .table .now) (refused (s .args .map .now) _ (t .before .before .sizes-of .ensures) (t .if1 .taken))) (r .refuse .ensures _)
 
 wide-requires : tie.Need-wide-requires
 wide-requires c κs = search needs
@@ -60,14 +60,14 @@ returns-2 c =
     let w = t .before in
     let l = w .before .before in
     let s = begin l in
-    rw (rows-16 (s .args .map .now) (s .args .table .now) (s .args .space .now) _ (sizes l) _ _ (w .wide2 .ensures) (w .before .wide .ensures) (t .if2 .taken)) (r .refuse2 .ensures _)
+    rw (rows-16 (s .args .map .now) (s .args .table .now) _ (sizes l) _ _ (w .wide2 .ensures) (w .before .wide .ensures) (t .if2 .taken)) (r .refuse2 .ensures _)
 
 returns-3 : tie.Need-returns-3
 returns-3 c =
     let w = c .before in
     let l = w .before .before in
     let s = begin l in
-    rows-done (s .args .map .now) (s .args .table .now) (s .args .space .now) _ (sizes l) _ _ (w .wide2 .ensures) (w .before .wide .ensures) _ (c .if2 .left)
+    rows-done (s .args .map .now) (s .args .table .now) _ (sizes l) _ _ (w .wide2 .ensures) (w .before .wide .ensures) _ (c .if2 .left)
 
 pub say-rows-spec : {M : Type 1} → statement M
 say-rows-spec =

@@ -9,7 +9,7 @@ use borrow.Author.Tests.{not-true, not-false}
 use lib.ListN.{length, take}
 use Rattle.definitions.specs.Select.{Place}
 use Rattle.survey.specs.Places.{placesAt}
-use Rattle.survey.specs.Rows.{same-is}
+use Rattle.laws.specs.Lists.{same-is}
 use Rattle.survey.specs.Surveyed.{rowsTo, room, small, rows-none, rows-more, rows-differ, rows-all}
 use Rattle.survey.proofs.fresh.is_fresh.Statement.{statement}
 use Rattle.survey.proofs.fresh.is_fresh.Tie as tie
