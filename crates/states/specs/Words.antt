@@ -7,55 +7,56 @@ use native.Mathlib.Omega.{arith}
 use native.Mathlib.Numerals.{add-one}
 use native.Mathlib.Nat.{add-assoc}
 use lib.Dec.{leb, ltb, eqb}
-use lib.ListN.{length, getD, drop, length-map, length-drop, drop-of-length-le}
-use lib.Seq.{drop-drop, drop-cons, getD-drop}
-use borrow.Author.Tests.{ltb-true, ltb-false, le-leb, lt-leb, eq-eqb, ne-eqb, lt-ltb, le-ltb}
+use lib.ListN.{length, getD, set, take, drop, length-map, length-drop, drop-of-length-le}
+use lib.Seq.{drop-drop, drop-cons, getD-drop, take-suc, take-suc-set}
+use borrow.Author.Tests.{leb-true, ltb-true, ltb-false, le-leb, lt-leb, eq-eqb, ne-eqb, lt-ltb, le-ltb}
 use Rattle.definitions.specs.declared.Device.{Device}
 use Rattle.definitions.specs.Lists.{every, has, distinct, same}
 use Rattle.definitions.specs.Map.{Map}
 use Rattle.definitions.specs.Load.{deviceRanged}
 use Rattle.definitions.specs.States.{NamedState, drivesIn, stateSize, statesIn, statesOf, numbersOf, stateFits, namesOf, stated, named, roomForName, devicesNamed}
-use Rattle.laws.specs.Lists.{every-at}
+use Rattle.laws.specs.Lists.{every-at, every-map, every-mono, getD-mapped}
 use Rattle.laws.specs.Loadable.{device-ranged}
 use Rattle.keeping.specs.States.{drives-count, driveAt, drive-at, states-count, how-many, Sized, fit-sized, Stated, stated-is}
 use Rattle.text.specs.Records.{noDevice}
 
 -- ---- the drives of a state
 
--- the drives es are ds, by their numbers, and have values that load takes
-abbrev pub drivesFit : List Device → List Device → Bool
-drivesFit ds es = same (numbersOf ds) (numbersOf es) && every deviceRanged es
+-- the drives es have these numbers, and values that load takes
+abbrev pub drivesFit : List ℕ → List Device → Bool
+drivesFit ns es = same ns (numbersOf es) && every deviceRanged es
 
--- a loop over the n drives from word a on: i so far
-module _ (ds : List Device) (ws : List ℕ) (n a i : ℕ) (size : n ≡ length ds) where
+-- a loop over the drives from word a on: i so far
+module _ (ns ws : List ℕ) (a i : ℕ) where
+  abbrev n : ℕ
+  n = length ns
+
   abbrev es : List Device
   es = drivesIn n (drop a ws)
 
   abbrev fitLeft : Bool
-  fitLeft = drivesFit (drop i ds) (drop i es)
+  fitLeft = drivesFit (drop i ns) (drop i es)
 
   pub fit-end : n ≤ i → fitLeft ≡ true
   unfolding same every
-  fit-end h = rw (drop-of-length-le ds {i = i} (omega (arith, size)), drop-of-length-le es {i = i} (omega (arith, drives-count n (drop a ws)))) refl
+  fit-end h = rw (drop-of-length-le ns {i = i} h, drop-of-length-le es {i = i} (omega (arith, drives-count n (drop a ws)))) refl
 
   module _ (h : i < n) where
-    abbrev d : Device
-    d = getD ds i noDevice
+    abbrev x : ℕ
+    x = getD ns i 0
 
     fit-cons : fitLeft
-        ≡ (eqb (d .number) (getD ws (a + 3 * i) 0) && same (numbersOf (drop (i + 1) ds)) (numbersOf (drop (i + 1) es))
+        ≡ (eqb x (getD ws (a + 3 * i) 0) && same (drop (i + 1) ns) (numbersOf (drop (i + 1) es))
         && (deviceRanged (driveAt ws (a + 3 * i)) && every deviceRanged (drop (i + 1) es)))
     unfolding same every
-    fit-cons =
-        rw (add-one i, drop-cons ds i noDevice (omega (arith, size)), drop-cons es i noDevice (omega (arith, drives-count n (drop a ws))), drive-at n ws a i noDevice h)
-        refl
+    fit-cons = rw (add-one i, drop-cons ns i 0 h, drop-cons es i noDevice (omega (arith, drives-count n (drop a ws))), drive-at n ws a i noDevice h) refl
 
     -- another number, or a value out of range
-    pub number-stop : (d .number ≡ getD ws (a + 3 * i) 0 → ⊥) → fitLeft ≡ false
-    number-stop f = fit-cons ∙ rw (ne-eqb (d .number) (getD ws (a + 3 * i) 0) f) refl
+    pub number-stop : (x ≡ getD ws (a + 3 * i) 0 → ⊥) → fitLeft ≡ false
+    number-stop f = fit-cons ∙ rw (ne-eqb x (getD ws (a + 3 * i) 0) f) refl
 
     range-stop : deviceRanged (driveAt ws (a + 3 * i)) ≡ false → fitLeft ≡ false
-    range-stop e = fit-cons ∙ rw e (and-false (eqb (d .number) (getD ws (a + 3 * i) 0) && same (numbersOf (drop (i + 1) ds)) (numbersOf (drop (i + 1) es))))
+    range-stop e = fit-cons ∙ rw e (and-false (eqb x (getD ws (a + 3 * i) 0) && same (drop (i + 1) ns) (numbersOf (drop (i + 1) es))))
 
     pub weight-stop : 65535 < getD ws (a + 3 * i + 1) 0 → fitLeft ≡ false
     unfolding deviceRanged
@@ -67,15 +68,29 @@ module _ (ds : List Device) (ws : List ℕ) (n a i : ℕ) (size : n ≡ length d
         range-stop
         (rw (lt-leb (getD ws (a + 3 * i + 2) 0) 65536 l) (and-false (leb (getD ws (a + 3 * i) 0) 1023 && leb (getD ws (a + 3 * i + 1) 0) 65535)))
 
-    -- one more fits: its number is that of a drive in range
-    pub fit-next : every deviceRanged ds ≡ true → d .number ≡ getD ws (a + 3 * i) 0 → getD ws (a + 3 * i + 1) 0 ≤ 65535 → getD ws (a + 3 * i + 2) 0 ≤ 65536
-        → drivesFit (drop (i + 1) ds) (drop (i + 1) es) ≡ fitLeft
+    -- one more fits: its number is in range, as all of these are
+    pub fit-next : every (λ (y : ℕ). leb y 1023) ns ≡ true → x ≡ getD ws (a + 3 * i) 0 → getD ws (a + 3 * i + 1) 0 ≤ 65535 → getD ws (a + 3 * i + 2) 0 ≤ 65536
+        → drivesFit (drop (i + 1) ns) (drop (i + 1) es) ≡ fitLeft
     unfolding deviceRanged
     fit-next f e p q =
-        let r = device-ranged d (every-at deviceRanged ds i noDevice f (omega (arith, size))) in
+        let r : x ≤ 1023 = leb-true x 1023 (every-at (λ (y : ℕ). leb y 1023) ns i 0 f h) in
         sym (fit-cons
-        ∙ rw (eq-eqb (d .number) (getD ws (a + 3 * i) 0) e)
-        (rw (le-leb (getD ws (a + 3 * i) 0) 1023 (omega (arith, e, r .number)), le-leb (getD ws (a + 3 * i + 1) 0) 65535 p, le-leb (getD ws (a + 3 * i + 2) 0) 65536 q) refl))
+        ∙ rw (eq-eqb x (getD ws (a + 3 * i) 0) e)
+        (rw (le-leb (getD ws (a + 3 * i) 0) 1023 (omega (arith, e, r)), le-leb (getD ws (a + 3 * i + 1) 0) 65535 p, le-leb (getD ws (a + 3 * i + 2) 0) 65536 q) refl))
+
+-- the numbers of a map's drives: one more is read
+pub number-more : (ds : List Device) (own : List ℕ) (i v : ℕ) → i < length ds → i < length own → v ≡ getD ds i noDevice .number
+    → take i own ≡ take i (numbersOf ds) → take (i + 1) (set own i v) ≡ take (i + 1) (numbersOf ds)
+number-more ds own i v h l e t =
+    let ns = numbersOf ds in
+    let g : v ≡ getD ns i 0 = e ∙ sym (getD-mapped (λ (d : Device). d .number) ds i noDevice 0 h) in
+    rw (add-one i) (take-suc-set own i v l ∙ rw (t, g) (sym (take-suc ns i 0 (omega (arith, length-map ds (λ (d : Device). d .number))))))
+
+-- they are in range where the drives are
+pub numbers-ranged : (ds : List Device) → every deviceRanged ds ≡ true → every (λ (x : ℕ). leb x 1023) (numbersOf ds) ≡ true
+numbers-ranged ds h =
+    every-map (λ (x : ℕ). leb x 1023) (λ (d : Device). d .number) ds
+    ∙ every-mono deviceRanged (λ (d : Device). leb (d .number) 1023) ds (λ d e. le-leb (d .number) 1023 (device-ranged d e .number)) h
 
 -- ---- the states
 
@@ -252,27 +267,29 @@ module _ (ws : List ℕ) (n c k x : ℕ) where
 
 -- ---- question 14
 
--- each state fits the map, and the names are all different
-abbrev pub goodStates : Map → List NamedState → Bool
-goodStates m ss = every (stateFits m) ss && distinct (namesOf ss)
+-- a state fits a map whose drives have these numbers
+abbrev pub fitsBy : List ℕ → NamedState → Bool
+fitsBy ns s = leb (s .name) 65535 && same ns (numbersOf (s .devices)) && every deviceRanged (s .devices)
+
+-- each does, and the names are all different
+abbrev pub goodStates : List ℕ → List NamedState → Bool
+goodStates ns ss = every (fitsBy ns) ss && distinct (namesOf ss)
 
 -- a state at word a: its name, and its drives
-module _ (m : Map) (ws : List ℕ) (n a : ℕ) where
-  pub name-stop : 65535 < getD ws a 0 → stateFits m (stateIn n ws a) ≡ false
-  unfolding stateFits
+module _ (ns ws : List ℕ) (n a : ℕ) where
+  pub name-stop : 65535 < getD ws a 0 → fitsBy ns (stateIn n ws a) ≡ false
   name-stop h = rw (lt-leb (getD ws a 0) 65535 h) refl
 
-  pub name-fits : getD ws a 0 ≤ 65535 → drivesFit (m .devices) (drivesIn n (drop (a + 1) ws)) ≡ stateFits m (stateIn n ws a)
-  unfolding stateFits
+  pub name-fits : getD ws a 0 ≤ 65535 → drivesFit ns (drivesIn n (drop (a + 1) ws)) ≡ fitsBy ns (stateIn n ws a)
   name-fits h = rw (le-leb (getD ws a 0) 65535 h) refl
 
 -- a loop over c states: k so far
-module _ (m : Map) (ws : List ℕ) (n c k : ℕ) where
+module _ (ns ws : List ℕ) (n c k : ℕ) where
   abbrev states : List NamedState
   states = statesIn n c (drop 2 ws)
 
   abbrev goodLeft : Bool
-  goodLeft = goodStates m (drop k states)
+  goodLeft = goodStates ns (drop k states)
 
   pub good-end : c ≤ k → goodLeft ≡ true
   unfolding every distinct
@@ -280,25 +297,25 @@ module _ (m : Map) (ws : List ℕ) (n c k : ℕ) where
 
   module _ (h : k < c) where
     good-cons : goodLeft
-        ≡ (stateFits m (stateIn n ws (slotAt n k)) && every (stateFits m) (drop (k + 1) states)
+        ≡ (fitsBy ns (stateIn n ws (slotAt n k)) && every (fitsBy ns) (drop (k + 1) states)
         && (not (has (getD ws (slotAt n k) 0) (namesOf (drop (k + 1) states))) && distinct (namesOf (drop (k + 1) states))))
     unfolding every distinct
     good-cons = rw (state-cons n c ws k h) refl
 
-    pub state-stop : stateFits m (stateIn n ws (slotAt n k)) ≡ false → goodLeft ≡ false
+    pub state-stop : fitsBy ns (stateIn n ws (slotAt n k)) ≡ false → goodLeft ≡ false
     state-stop p = good-cons ∙ rw p refl
 
     pub again-stop : has (getD ws (slotAt n k) 0) (namesOf (drop (k + 1) states)) ≡ true → goodLeft ≡ false
-    again-stop q = good-cons ∙ rw q (and-false (stateFits m (stateIn n ws (slotAt n k)) && every (stateFits m) (drop (k + 1) states)))
+    again-stop q = good-cons ∙ rw q (and-false (fitsBy ns (stateIn n ws (slotAt n k)) && every (fitsBy ns) (drop (k + 1) states)))
 
-    pub good-next : stateFits m (stateIn n ws (slotAt n k)) ≡ true → has (getD ws (slotAt n k) 0) (namesOf (drop (k + 1) states)) ≡ false
-        → goodStates m (drop (k + 1) states) ≡ goodLeft
+    pub good-next : fitsBy ns (stateIn n ws (slotAt n k)) ≡ true → has (getD ws (slotAt n k) 0) (namesOf (drop (k + 1) states)) ≡ false
+        → goodStates ns (drop (k + 1) states) ≡ goodLeft
     good-next p q = sym (good-cons ∙ rw (p, q) refl)
 
 -- the question, by its parts
 module _ (m : Map) (ws : List ℕ) where
-  stated-parts : stated m ws ≡ (leb (getD ws 0 0) 8 && goodStates m (statesOf ws))
-  unfolding stated
+  stated-parts : stated m ws ≡ (leb (getD ws 0 0) 8 && goodStates (numbersOf (m .devices)) (statesOf ws))
+  unfolding stated stateFits
   stated-parts = and-assoc (leb (getD ws 0 0) 8) (every (stateFits m) (statesOf ws)) (distinct (namesOf (statesOf ws)))
 
   pub stated-many : 8 < getD ws 0 0 → stated m ws ≡ false
@@ -316,6 +333,6 @@ module _ (m : Map) (ws : List ℕ) where
       go true e = absurd (f (each-has m ws (stated-is m ws e) h))
       go false e = refl
 
-  pub stated-good : (n : ℕ) → getD ws 0 0 ≤ 8 → getD ws 1 0 ≡ n → goodStates m (statesIn n (getD ws 0 0) (drop 2 ws)) ≡ stated m ws
+  pub stated-good : (n : ℕ) → getD ws 0 0 ≤ 8 → getD ws 1 0 ≡ n → goodStates (numbersOf (m .devices)) (statesIn n (getD ws 0 0) (drop 2 ws)) ≡ stated m ws
   unfolding statesOf
   stated-good n h e = sym (stated-parts ∙ rw (le-leb (getD ws 0 0) 8 h, e) refl)

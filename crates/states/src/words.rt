@@ -3,27 +3,42 @@
 ghost use mathlib.Core.Path.{_≡_};
 ghost use mathlib.Core.Bool.{true};
 ghost use mathlib.Core.List.{_∷_};
-ghost use Prim.Native.Nat.{_+_, _*_, _<_, _≤_};
-ghost use lib.ListN.{length, drop};
+ghost use Prim.Native.Nat.{ℕ, _+_, _*_, _<_, _≤_};
+ghost use lib.Dec.{leb};
+ghost use lib.ListN.{length, take, drop};
 ghost use lib.Seq.{paste};
 ghost use Rattle.definitions.specs.Lists.{every};
 ghost use Rattle.definitions.specs.Map.{Map, mapOf};
 ghost use Rattle.definitions.specs.Load.{deviceRanged};
-ghost use Rattle.definitions.specs.States.{driveWords, drivesIn, statesIn, statesOf, stateFits, namesOf, stated, stored};
+ghost use Rattle.definitions.specs.States.{driveWords, drivesIn, statesIn, statesOf, numbersOf, namesOf, stated, stored};
 ghost use Rattle.text.specs.RoundTrip.{Framed};
-ghost use Rattle.states.specs.Words.{drivesFit, stateIn, placeOf, goodStates};
+ghost use Rattle.states.specs.Words.{drivesFit, fitsBy, stateIn, placeOf, goodStates};
 use frames::records;
 
-// The n drives from word a on are the map's, by their numbers, and have values that load takes.
-fn drives_fit<'a, 'b>(t: &'a [u8], n: usize, s: &'b [u32], a: usize) -> bool
-    requires { ⌜ Framed (now t) × (n ≡ length (mapOf (now t) .devices)) × (every deviceRanged (mapOf (now t) .devices) ≡ true) ⌝ }
-    requires { ⌜ (a + 3 * n ≤ length (now s)) × (length (now s) ≤ 24586) ⌝ }
-    ensures { λ r. ⌜ r ≡ drivesFit (mapOf (now (t .entry)) .devices) (drivesIn n (drop a (now (s .entry)))) ⌝ }
+// The numbers of the map's n drives, from the front of the array on.
+fn numbers_of(t: &[u8], n: usize) -> [u32; 1024]
+    requires { ⌜ Framed (now t) × (n ≡ length (mapOf (now t) .devices)) × (n ≤ 1024) ⌝ }
+    ensures { λ r. ⌜ take n r ≡ numbersOf (mapOf (now (t .entry)) .devices) ⌝ }
 {
+    let mut own = [0u32; 1024];
+    let mut i: usize = 0;
+    while i < n {
+        own[i] = records::device_number(t, i);
+        i += 1;
+    }
+    own
+}
+
+// The drives from word a on are those of the map's numbers, which are own, and have values that load takes.
+fn drives_fit<'a, 'b>(own: &'a [u32], s: &'b [u32], a: usize) -> bool
+    requires { ⌜ (a + 3 * length (now own) ≤ length (now s)) × (length (now s) ≤ 24586) × (every (λ (x : ℕ). leb x 1023) (now own) ≡ true) ⌝ }
+    ensures { λ r. ⌜ r ≡ drivesFit (now (own .entry)) (drivesIn (length (now (own .entry))) (drop a (now (s .entry)))) ⌝ }
+{
+    let n = own.len();
     let mut i: usize = 0;
     while i < n {
         let w = a + 3 * i;
-        if records::device_number(t, i) != s[w] {
+        if own[i] != s[w] {
             return false;
         }
         if 65535 < s[w + 1] {
@@ -38,15 +53,14 @@ fn drives_fit<'a, 'b>(t: &'a [u8], n: usize, s: &'b [u32], a: usize) -> bool
 }
 
 // The state from word a on fits the map: its name has 16 bits, and its drives are such.
-fn state_fits<'a, 'b>(t: &'a [u8], n: usize, s: &'b [u32], a: usize) -> bool
-    requires { ⌜ Framed (now t) × (n ≡ length (mapOf (now t) .devices)) × (every deviceRanged (mapOf (now t) .devices) ≡ true) ⌝ }
-    requires { ⌜ (a + 1 + 3 * n ≤ length (now s)) × (length (now s) ≤ 24586) ⌝ }
-    ensures { λ r. ⌜ r ≡ stateFits (mapOf (now (t .entry))) (stateIn n (now (s .entry)) a) ⌝ }
+fn state_fits<'a, 'b>(own: &'a [u32], s: &'b [u32], a: usize) -> bool
+    requires { ⌜ (a + 1 + 3 * length (now own) ≤ length (now s)) × (length (now s) ≤ 24586) × (every (λ (x : ℕ). leb x 1023) (now own) ≡ true) ⌝ }
+    ensures { λ r. ⌜ r ≡ fitsBy (now (own .entry)) (stateIn (length (now (own .entry))) (now (s .entry)) a) ⌝ }
 {
     if 65535 < s[a] {
         return false;
     }
-    drives_fit(t, n, s, a + 1)
+    drives_fit(own, s, a + 1)
 }
 
 // Which of the states k to c has a name first, and c where none has it.
@@ -65,16 +79,16 @@ fn place_from(s: &[u32], n: usize, k: usize, c: usize, x: u32) -> usize
     j
 }
 
-// Each of c states fits the map, and no name stands twice.
-fn good_states<'a, 'b>(t: &'a [u8], s: &'b [u32], n: usize, c: usize) -> bool
-    requires { ⌜ Framed (now t) × (n ≡ length (mapOf (now t) .devices)) × (every deviceRanged (mapOf (now t) .devices) ≡ true) ⌝ }
-    requires { ⌜ (2 + c * (1 + 3 * n) ≤ length (now s)) × (length (now s) ≤ 24586) ⌝ }
-    ensures { λ r. ⌜ r ≡ goodStates (mapOf (now (t .entry))) (statesIn n c (drop 2 (now (s .entry)))) ⌝ }
+// Each of c states fits the map of these numbers, and no name stands twice.
+fn good_states<'a, 'b>(own: &'a [u32], s: &'b [u32], c: usize) -> bool
+    requires { ⌜ (2 + c * (1 + 3 * length (now own)) ≤ length (now s)) × (length (now s) ≤ 24586) × (every (λ (x : ℕ). leb x 1023) (now own) ≡ true) ⌝ }
+    ensures { λ r. ⌜ r ≡ goodStates (now (own .entry)) (statesIn (length (now (own .entry))) c (drop 2 (now (s .entry)))) ⌝ }
 {
+    let n = own.len();
     let mut k: usize = 0;
     while k < c {
         let a = 2 + k * (1 + 3 * n);
-        if !state_fits(t, n, s, a) {
+        if !state_fits(own, s, a) {
             return false;
         }
         let later = place_from(s, n, k + 1, c, s[a]);
@@ -102,7 +116,8 @@ pub fn states_good<'a, 'b>(t: &'a [u8], n: usize, states: &'b [u32; 24586]) -> b
     if states[1] != n as u32 {
         return false;
     }
-    good_states(t, states, n, c as usize)
+    let own = numbers_of(t, n);
+    good_states(&own[..n], states, c as usize)
 }
 
 // Which state has a name, and behind all where none has it. The states are such as question 14 takes of a map with n drives.

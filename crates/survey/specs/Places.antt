@@ -24,7 +24,7 @@ use Rattle.placement.specs.Lengths.{run-most}
 use Rattle.survey.specs.declared.looks.Glance.{Glance}
 use Rattle.survey.specs.declared.looks.Glance.the-variants.{Stale, Moves}
 use Rattle.survey.specs.declared.looks.Reach.{Reach}
-use Rattle.survey.specs.declared.looks.Reach.the-variants.{Anywhere, Before, After}
+use Rattle.survey.specs.declared.looks.Reach.the-variants.{Anywhere, Everywhere, Before, After}
 use Rattle.survey.specs.Rows.{differTo, differ-same, differ-moves, same-rows}
 
 -- the list of group x, by the rule over a plan and values
@@ -94,6 +94,7 @@ LookedAt plan old new rule w x row o = Looked (placesAt plan old rule w x) (plac
 -- whether an edit of this reach can move places between these rows of a group, old and new
 abbrev pub reached : Reach → List ℕ → List ℕ → Bool
 reached Anywhere olds news = true
+reached Everywhere olds news = true
 reached (Before d) olds news = has d olds
 reached (After d) olds news = has d news
 

@@ -2,9 +2,10 @@
 ghost use mathlib.Core.Path.{_≡_};
 ghost use mathlib.Core.Bool.{true, cond};
 ghost use mathlib.Core.List.{List};
+ghost use Prim.Native.Nat.{ℕ};
 ghost use lib.ListN.{length, take};
 ghost use Rattle.definitions.specs.Select.{Place, entriesOf};
-ghost use Rattle.survey.specs.Places.{placesAt, Runs, Stood, Looked, LookedAt, Within};
+ghost use Rattle.survey.specs.Places.{placesAt, Runs, Stood, Looked, LookedAt, reached, Within};
 use crate::rows;
 use causes::joint;
 use hierarchy::Plan;
@@ -18,11 +19,26 @@ pub enum Glance {
     Moves(u32),
 }
 
-// In which groups an edit can move places: in all, in those whose old row holds the device, or in those whose new row does.
+// In which groups places can move: in all, and then in few of them or in many; in those whose old row holds the device, or in those whose new row does.
 pub enum Reach {
     Anywhere,
+    Everywhere,
     Before(u32),
     After(u32),
+}
+
+// The reach for group g, where so many places moved in those below it. Two runs made at once cost less than two runs where they seldom part, and
+// more where they part often.
+pub fn reach_at(reach: Reach, moves: u32, g: u32) -> Reach
+    ensures { λ r. ⌜ ((olds news : List ℕ) → reached r olds news ≡ reached reach olds news) ⌝ }
+{
+    let Reach::Anywhere = reach else {
+        return reach;
+    };
+    if g / 2 < moves {
+        return Reach::Everywhere;
+    }
+    Reach::Anywhere
 }
 
 // The w places of group x, at the front of the array.
@@ -202,6 +218,7 @@ pub fn look<'a, 'b>(
 {
     match reach {
         Reach::Anywhere => look_anywhere(plan, old, new, rule, x, w, row),
+        Reach::Everywhere => look_apart(plan, old, new, rule, x, w, row),
         Reach::Before(d) => look_before(plan, old, new, rule, x, w, row, d),
         Reach::After(d) => look_after(plan, old, new, rule, x, w, row, d),
     }

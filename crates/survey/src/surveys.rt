@@ -62,9 +62,10 @@ pub fn survey_within<'a, 'b>(
     let mut moves: u32 = 0;
     let mut g: u32 = 0;
     while g < groups {
+        let here = looks::reach_at(reach, moves, g);
         let a = g as usize * w;
         let e = a + w;
-        let o = looks::look(plan, old, new, rule, g, w, &table[a..e], reach);
+        let o = looks::look(plan, old, new, rule, g, w, &table[a..e], here);
         match o {
             Glance::Stale => {
                 return Findings {

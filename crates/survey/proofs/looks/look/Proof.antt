@@ -16,6 +16,12 @@ enum-told c = search needs
 look-anywhere-requires : tie.Need-look-anywhere-requires
 look-anywhere-requires c κs = search needs
 
+enum-told-2 : tie.Need-enum-told-2
+enum-told-2 c = search needs
+
+look-apart-requires : tie.Need-look-apart-requires
+look-apart-requires c κs = search needs
+
 enum-known-reach : tie.Need-enum-known-reach
 enum-known-reach c = search needs
 
@@ -43,16 +49,22 @@ returns-2 c = search needs
 returns-3 : tie.Need-returns-3
 returns-3 c = search needs
 
+returns-4 : tie.Need-returns-4
+returns-4 c = search needs
+
 pub look-spec : {M : Type 1} → statement M
 look-spec =
     tie.close
     (tie.spec
     enum-told
     look-anywhere-requires
+    enum-told-2
+    look-apart-requires
     enum-known-reach
     look-before-requires
     enum-known-reach-2
     look-after-requires
     returns
     returns-2
-    returns-3)
+    returns-3
+    returns-4)

@@ -1,5 +1,5 @@
 -- `survey::surveys::survey_within` meets its contract. The invariant: what is known where the groups below g were looked at. Assumes nothing.
-use mathlib.Core.Path.{_∙_}
+use mathlib.Core.Path.{sym, _∙_}
 use mathlib.Core.List.{List}
 use Prim.Native.Nat.{ℕ, _+_, _-_, _*_, _≤_}
 use native.Mathlib.Omega.{arith}
@@ -42,6 +42,9 @@ ends c =
     let p = s .pre .1 .0 in
     (omega (arith, room (c .before .loop .g) (s .args .groups) (s .args .w) (c .loop-test .taken), p .1), small (c .before .loop .g) (s .args .groups) (s .args .w) (c .loop-test .taken) (p .0) (s .pre .0 .0 .3))
 
+reach-at-requires : tie.Need-reach-at-requires Inv-loop μ-loop
+reach-at-requires c κs = search needs
+
 loop-holds : tie.Need-loop-holds Inv-loop μ-loop
 loop-holds c = (omega arith, sofar-none _ _ _ _ _ (search (needs, c .unmarked .ok)))
 
@@ -49,13 +52,13 @@ cast-a : tie.Need-cast-a Inv-loop μ-loop
 cast-a c = search needs
 
 mul-a : tie.Need-mul-a Inv-loop μ-loop
-mul-a c = omega (arith, ends c .1)
+mul-a c = omega (arith, ends (c .before) .1)
 
 add-e : tie.Need-add-e Inv-loop μ-loop
-add-e c = omega (arith, ends c .1)
+add-e c = omega (arith, ends (c .before) .1)
 
 mul-look : tie.Need-mul-look Inv-loop μ-loop
-mul-look c = omega (arith, ends c .1)
+mul-look c = omega (arith, ends (c .before) .1)
 
 sub-look : tie.Need-sub-look Inv-loop μ-loop
 sub-look c = omega arith
@@ -64,12 +67,14 @@ part-look-start : tie.Need-part-look-start Inv-loop μ-loop
 part-look-start c = omega arith
 
 part-look-end : tie.Need-part-look-end Inv-loop μ-loop
-part-look-end c = ends c .0
+part-look-end c = ends (c .before) .0
 
 look-requires : tie.Need-look-requires Inv-loop μ-loop
 look-requires c κs =
-    let s = start (c .before) in
-    ((s .pre .0 .0, s .pre .0 .1, c .look-arg .given .2 ∙ add-sub-cancel-left _ _), s .pre .1 .1 _ (c .before .loop-test .taken))
+    let h = c .before in
+    let t = h .before in
+    let s = start t in
+    ((s .pre .0 .0, s .pre .0 .1, c .look-arg .given .2 ∙ add-sub-cancel-left _ _), λ e. s .pre .1 .1 _ (t .loop-test .taken) (sym (h .reach-at .ensures _ _) ∙ e))
 
 enum-told : tie.Need-enum-told Inv-loop μ-loop
 enum-told c = search needs
@@ -77,7 +82,7 @@ enum-told c = search needs
 returns : tie.Need-returns Inv-loop μ-loop
 returns c =
     let k = c .before .before in
-    let t = k .before .before in
+    let t = k .before .before .before in
     let s = start t in
     let l = t .before .loop in
     let q = surveyed-stale (s .args .w) (olds s) (news s) (l .g) (s .args .groups) (s .args .table .now) (l .changed) (l .moves) (l .inv .1) (t .loop-test .taken) (s .pre .1 .0 .1) _ (add-sub-cancel-left _ _) (k .look .result) (k .look .ensures) (c .enum-told .given .1) in
@@ -94,29 +99,29 @@ cast-changed c = search needs
 
 array-write-changed : tie.Need-array-write-changed Inv-loop μ-loop
 array-write-changed c =
-    let t = c .before .before .before .before .before .before in
+    let t = c .before .before .before .before .before .before .before in
     omega (arith, t .loop-test .taken, start t .pre .1 .0 .0)
 
 add-moves : tie.Need-add-moves Inv-loop μ-loop
 add-moves c =
-    let t = c .before .before .before .before .before .before in
+    let t = c .before .before .before .before .before .before .before in
     let k = c .before .before .before .before in
     let l = t .before .loop in
     omega (arith, l .inv .1 .few, few-moves _ _ _ _ _ (k .look .result) _ (k .look .ensures) (c .before .before .o .given .1), t .loop-test .taken, start t .pre .1 .0 .0)
 
 add-g : tie.Need-add-g Inv-loop μ-loop
 add-g c =
-    let t = c .before .before .before .before .before .before in
+    let t = c .before .before .before .before .before .before .before in
     omega (arith, t .loop-test .taken, start t .pre .1 .0 .0)
 
 loop-less : tie.Need-loop-less Inv-loop μ-loop
 loop-less c =
-    let t = c .before .before .before .before .before .before in
+    let t = c .before .before .before .before .before .before .before in
     omega (arith, t .loop-test .taken)
 
 loop-again : tie.Need-loop-again Inv-loop μ-loop
 loop-again c =
-    let t = c .before .before .before .before .before .before in
+    let t = c .before .before .before .before .before .before .before in
     let s = start t in
     let l = t .before .loop in
     let k = c .before .before .before .before in
@@ -137,6 +142,7 @@ survey-within-spec =
     μ-loop
     unmarked-requires
     loop-holds
+    reach-at-requires
     cast-a
     mul-a
     add-e
