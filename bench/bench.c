@@ -81,14 +81,16 @@ static void compare_moved(struct crush_edited x, struct plain_made y) {
         expect(memcmp(space + CRUSH_MOVE * i, space2 + CRUSH_MOVE * i, CAUSE) == 0, "edit or return: a move");
 }
 
-static uint32_t edit_once(struct pair *best, const char *frame) {
-    const uint8_t *f = (const uint8_t *)frame;
+/* an edit, or where there is no frame a return to the name */
+static uint32_t move_once(struct pair *best, const uint8_t *frame, uint16_t name) {
     memcpy(map2, map, len);
     memcpy(table2, table, sizeof table);
     double a = now();
-    struct crush_edited x = crush_edit(map, len, table, PLACES, f, CRUSH_FRAME, space, SPACE);
+    struct crush_edited x = frame ? crush_edit(map, len, table, PLACES, frame, CRUSH_FRAME, space, SPACE)
+                                  : crush_return(map, len, table, PLACES, states, name, space, SPACE);
     double b = now();
-    struct plain_made y = plain_edit(map2, len, table2, PLACES, f, CRUSH_FRAME, space2, SPACE);
+    struct plain_made y = frame ? plain_edit(map2, len, table2, PLACES, frame, CRUSH_FRAME, space2, SPACE)
+                                : plain_return(map2, len, table2, PLACES, states, name, space2, SPACE);
     double c = now();
     compare_moved(x, y);
     keep_least(&best->engine, b - a);
@@ -96,19 +98,9 @@ static uint32_t edit_once(struct pair *best, const char *frame) {
     return x.moves;
 }
 
-static uint32_t return_once(struct pair *best, uint16_t name) {
-    memcpy(map2, map, len);
-    memcpy(table2, table, sizeof table);
-    double a = now();
-    struct crush_edited x = crush_return(map, len, table, PLACES, states, name, space, SPACE);
-    double b = now();
-    struct plain_made y = plain_return(map2, len, table2, PLACES, states, name, space2, SPACE);
-    double c = now();
-    compare_moved(x, y);
-    keep_least(&best->engine, b - a);
-    keep_least(&best->plain, c - b);
-    return x.moves;
-}
+static uint32_t edit_once(struct pair *best, const char *frame) { return move_once(best, (const uint8_t *)frame, 0); }
+
+static uint32_t return_once(struct pair *best, uint16_t name) { return move_once(best, NULL, name); }
 
 static void store_once(struct pair *best, uint16_t name) {
     memcpy(states2, states, sizeof states);

@@ -31,8 +31,8 @@
  *             ceiling that of every group. Where few groups move, an edit of an acceptance takes little longer than filling the table, and one
  *             of a weight less than filling it twice. Where many do, an edit takes up to four times as long as filling both tables, the one
  *             before it and the one behind it; and that one may take far longer to fill. A return takes less than filling the table twice
- *             where few groups move, and where most do about twice as long as filling both tables. A store takes up to half as long again
- *             as load's questions, the longer the more states there are. All of this is measured.
+ *             where few groups move, and where most do half as long again as filling both tables. A store takes up to a fifth longer than
+ *             load's questions, the longer the more states there are. All of this is measured.
  *
  * Load's questions, in the order in which they are put, which is not that of their numbers, each to the whole map before the next:
  *

@@ -75,7 +75,7 @@ def main():
     parser = argparse.ArgumentParser(description=__doc__)
     parser.add_argument("--oracle", type=pathlib.Path, required=True)
     parser.add_argument("--operate", action="store_true")
-    parser.add_argument("--level", type=int, default=7)
+    parser.add_argument("--level", type=int, default=8)
     parser.add_argument("--maps", type=int, default=100)
     parser.add_argument("--first", type=int, default=0)
     parser.add_argument("--kinds", nargs="+", choices=KINDS + LISTS)
