@@ -184,14 +184,13 @@ def numbers(ns):
 
 class Theorems:
     def __init__(self):
-        self.items = []                      # (name, kind, keys, text, law,
-        #                                      what is in it: STEP_5, NONE,
-        #                                      TREE, SHARED)
+        self.items = []                      # (name, kind, keys, text, what
+        #                                      is in it: STEP_5, NONE, TREE,
+        #                                      SHARED)
 
-    def add(self, kind, what, left, right, keys=0, mp=None, dead=0, law=None):
+    def add(self, kind, what, left, right, keys=0, mp=None, dead=0):
         """mp is the map, or the tree, that the equation is of, dead how many
-        inner walks find none in it; law is what shows it in place of refl, and
-        what of it refl shows."""
+        inner walks find none in it."""
         name = 't%d' % len(self.items)
         if ARGS.wrong:
             right = spoil(right, len(self.items))
@@ -200,7 +199,7 @@ class Theorems:
                SHARED: mp is not None and blocks.share_drives(crush, mp)}
         self.items.append((name, kind, keys,
                            '-- %s: %s\n%s : %s ≡ %s' % (kind, what, name, left,
-                                                       right), law,
+                                                       right),
                            [part for part in has if has[part]]))
 
 
@@ -953,80 +952,6 @@ def ceiling_maps(ths, count):
 
 # ---------------------------------------------------------------- states
 
-# A number of drives up to which nobody can count is no number that `refl`
-# can evaluate with: it is refused by this law, for every number that is not
-# the map's.
-COUNTED = """-- Written by evaluate_definitions.py.
-use mathlib.Core.Path.{_≡_, refl, sym, _∙_}
-use mathlib.Core.Bool.{Bool, true, false, _&&_, false≢true}
-use mathlib.Core.List.{List, [], _∷_}
-use Prim.Native.Nat.{ℕ, zero, suc}
-use lib.Dec.{leb, eqb, eqb·suc-suc}
-use lib.ListN.{length, getD, drop}
-use %(of)sdeclared.Device.{Device}
-use %(of)sLists.{every, same, firstNo}
-use %(of)sMap.{Map, mapOf}
-use %(of)sStates.{drivesIn, statesIn, statesOf, numbersOf, stateFits, stated}
-use %(of)sCalls.{whole, wholeWith, storeNumber, storeBy, storeOf, returnCase, returnNumber, returnBy, returnAnswer, returnOf}
-
-no-ahead : (a b : Bool) → a ≡ false → (a && b) ≡ false
-no-ahead true b e = absurd (false≢true (sym e))
-no-ahead false b e = refl
-
-no-between : (a b c : Bool) → b ≡ false → (a && b && c) ≡ false
-no-between true true c e = absurd (false≢true (sym e))
-no-between true false c e = refl
-no-between false b c e = refl
-
-no-behind : (a b : Bool) → b ≡ false → (a && b) ≡ false
-no-behind true b e = e
-no-behind false b e = refl
-
-other-drives : (ds : List Device) (n : ℕ) (ws : List ℕ) → eqb n (length ds) ≡ false
-    → same (numbersOf ds) (numbersOf (drivesIn n ws)) ≡ false
-unfolding same drivesIn
-other-drives [] zero ws e = e
-other-drives [] (suc n) ws e = refl
-other-drives (d ∷ ds) zero ws e = refl
-other-drives (d ∷ ds) (suc n) ws e =
-    no-behind (eqb (d .number) (getD ws 0 0)) _ (other-drives ds n (drop 3 ws) (sym (eqb·suc-suc n (length ds)) ∙ e))
-
-other-states : (m : Map) (n k : ℕ) (ws : List ℕ) → eqb n (length (m .devices)) ≡ false
-    → every (stateFits m) (statesIn n (suc k) ws) ≡ false
-unfolding every statesIn stateFits
-other-states m n k ws e =
-    no-ahead _ _ (no-between (leb (getD ws 0 0) 65535) _ _ (other-drives (m .devices) n (drop 1 ws) e))
-
-other-stated : (m : Map) (n k : ℕ) (ws : List ℕ) → eqb n (length (m .devices)) ≡ false → stated m (suc k ∷ n ∷ ws) ≡ false
-unfolding stated statesOf
-other-stated m n k ws e = no-between (leb (suc k) 8) _ _ (other-states m n k ws e)
-
-abbrev pub OtherCount : List ℕ → ℕ → Type 0
-OtherCount fs n = eqb n (length (mapOf fs .devices)) ≡ false
-
-module _ (fs : List ℕ) (n k : ℕ) (ws : List ℕ) (e : OtherCount fs n) where
-  other-whole : wholeWith fs (suc k ∷ n ∷ ws) ≡ false
-  unfolding wholeWith
-  other-whole = no-behind (whole fs) _ (other-stated (mapOf fs) n k ws e)
-
-  pub other-store : (name : ℕ) → storeOf fs (suc k ∷ n ∷ ws) name ≡ record { number = 14; states = suc k ∷ n ∷ ws }
-  unfolding storeOf storeNumber firstNo storeBy
-  other-store name = rw other-whole
-
-  pub other-return : (t : List ℕ) (name : ℕ) (s : List ℕ)
-      → returnOf fs t (suc k ∷ n ∷ ws) name s ≡ record { number = 14; moves = 0; frames = fs; table = t; space = s }
-  unfolding returnOf returnAnswer returnCase returnNumber firstNo returnBy
-  other-return t name s = rw other-whole
-""" % {'of': OF}
-
-
-def counted_law(name, frames, lent):
-    """The law of COUNTED where states have too many drives to count."""
-    if 0 < lent[0] <= states.MOST and lent[1] > states.COUNTABLE:
-        return ('%s _ %d %d _' % (name, lent[1], lent[0] - 1),
-                'OtherCount %s %d' % (text(frames), lent[1]))
-
-
 class StateCalls:
     """Equations of calls with named states, and what is told of them."""
 
@@ -1055,8 +980,7 @@ class StateCalls:
         self.ths.add('store', what,
                      'storeOf %s %s %d' % (text(frames), numbers(lent), name),
                      'record { number = %d; states = %s }' % (number,
-                                                              numbers(after)),
-                     law=counted_law('other-store', frames, lent))
+                                                              numbers(after)))
         return after
 
     def back(self, what, frames, table, lent, name, room, keys, mp):
@@ -1073,8 +997,7 @@ class StateCalls:
             'space = %s }' % (number, moves, text(after), numbers(filled),
                               text(lines + b'\7' * (room - len(lines)))),
             keys if number in (0, 19, 20) else 0,
-            None if number == 14 else mp,
-            law=counted_law('other-return', frames, lent))
+            None if number == 14 else mp)
 
     def told(self):
         return ', '.join('%s %s' % (call, ' '.join(
@@ -1279,45 +1202,33 @@ dead-cabinet = rw gives-up
 
 # ------------------------------------------------------------- checking
 
-def write_crate(root, name, check, module='Check'):
+def write_crate(root, name, check):
     base = os.path.join(root, 'crates', name)
     os.makedirs(os.path.join(base, 'src'))
     os.makedirs(os.path.join(base, 'specs'))
     for path, held in (
             (('src', 'lib.rt'), '// Written by evaluate_definitions.py: no code.\n'),
-            (('specs', 'Lib.antt'), 'pub mod %s\n' % module),
-            (('specs', module + '.antt'), check)):
+            (('specs', 'Lib.antt'), 'pub mod Check\n'),
+            (('specs', 'Check.antt'), check)):
         with open(os.path.join(base, *path), 'w') as f:
             f.write(held)
 
 
-def shown(name, equation, law, opened):
-    """An equation with its proof."""
-    if law is None:
-        return '%s\n%s\n%s = refl\n\n' % (equation, opened, name)
-    by, part = law
-    places = ' _' * (3 if by.startswith('other-return') else 1)
-    return '%s-part : %s\n%s\n%s-part = refl\n\n%s\n%s = %s %s-part%s\n\n' % (
-        name, part, opened, name, equation, name, by, name, places)
-
-
 def run(ths, root):
-    head, opened = header(
-        'use Rattle.counted.specs.Counted.{OtherCount, other-store, other-return}\n')
+    head, opened = header()
     crates = []
     items = ths.items
     for i in range(0, len(items), ARGS.per):
         name = 'check%d' % (i // ARGS.per)
         crates.append((name, items[i:i + ARGS.per]))
         write_crate(root, name, head + '\n' + ''.join(
-            shown(n, t, law, opened)
-            for n, _, _, t, law, _ in items[i:i + ARGS.per]))
-    write_crate(root, 'counted', COUNTED, 'Counted')
+            '%s\n%s\n%s = refl\n\n' % (t, opened, n)
+            for n, _, _, t, _ in items[i:i + ARGS.per]))
     with open(os.path.join(root, 'crates.txt'), 'w') as f:
-        f.write('definitions:\ncounted: definitions\n')
+        f.write('definitions:\n')
         for name in sorted(os.listdir(os.path.join(root, 'crates'))):
-            if name not in ('definitions', 'counted'):
-                f.write('%s: definitions counted\n' % name)
+            if name != 'definitions':
+                f.write('%s: definitions\n' % name)
     held, held_of = {}, {}
     total = {}
     failed = []
@@ -1339,7 +1250,7 @@ def run(ths, root):
             raise SystemExit('evaluate_definitions.py: rt check failed, with no theorem named')
         if not p.returncode and bad:
             raise SystemExit('evaluate_definitions.py: rt check passed and named a theorem')
-        for n, kind, keys, t, _, has in its:
+        for n, kind, keys, t, has in its:
             total[kind] = total.get(kind, 0) + 1
             if n in bad:
                 failed.append((n, kind, t))

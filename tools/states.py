@@ -7,8 +7,6 @@ import random
 
 MOST = 8
 WORD = 2 ** 32
-# so many drives nobody has to be able to count
-COUNTABLE = 10000
 
 
 def size(drives):
@@ -133,7 +131,7 @@ def bad_words(rng, mp, states, lent):
     yield "no drives", put(1, 0)
     yield "a drive too few", put(1, n - 1)
     yield "a drive too many", put(1, n + 1)
-    yield "as many drives as have no room", put(1, COUNTABLE)
+    yield "as many drives as have no room", put(1, 10000)
     yield "drives without end", put(1, WORD - 1)
     yield "nine states of drives without end", [9, WORD - 1] + good[2:]
     # another map's, with the same numbers in front

@@ -78,6 +78,13 @@ fresh m runs table = same (take (m .groups * widthOf m) table) (tableIn runs)
 unfoldable pub roomForMoves : List Move → List ℕ → Bool
 roomForMoves moves space = leb (23 * length moves) (length space)
 
+-- ---- what goes on from call to call (a site, as we call it): the map's frames, the table and the words of the states, as they are lent
+
+pub record Site : Type 0 where
+  pub frames : List ℕ
+  pub table : List ℕ
+  pub states : List ℕ
+
 -- ---- the sizes of a map: by its groups and its width a caller knows how large a table he has to lend
 
 pub record SizesAnswer : Type 0 where

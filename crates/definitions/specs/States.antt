@@ -1,6 +1,7 @@
 -- Document 02, change 8, "Back to the map of a campaign": the named states. They are lent beside the map's frames, as words of 32 bits: how
 -- many states there are, how many drives each of them has, and then the states, each its name ahead of its drives, and of each drive its
--- number, its weight and its acceptance. What lies beyond them is free.
+-- number, its weight and its acceptance. What lies beyond them is free. (24,586 words are lent, room for eight states of 1,024 drives, so that no
+-- state that question 14 takes reaches beyond them: `keeping/States.stated-inside`.)
 use mathlib.Core.Bool.{Bool, cond, _&&_, _||_}
 use mathlib.Core.List.{List, [], _∷_, map}
 use Prim.Native.Nat.{ℕ, zero, suc, _+_, _*_}
@@ -65,8 +66,12 @@ stateFits m s = leb (s .name) 65535 && same (numbersOf (m .devices)) (numbersOf 
 abbrev pub namesOf : List NamedState → List ℕ
 namesOf ss = map (λ (s : NamedState). s .name) ss
 
+-- as many drives as the map has, where there is a state: so no more of them are read
+unfoldable pub countFits : Map → List ℕ → Bool
+countFits m ws = eqb (getD ws 0 0) 0 || eqb (getD ws 1 0) (length (m .devices))
+
 unfoldable pub stated : Map → List ℕ → Bool
-stated m ws = leb (getD ws 0 0) 8 && every (stateFits m) (statesOf ws) && distinct (namesOf (statesOf ws))
+stated m ws = leb (getD ws 0 0) 8 && countFits m ws && every (stateFits m) (statesOf ws) && distinct (namesOf (statesOf ws))
 
 -- ---- storing
 

@@ -16,7 +16,7 @@ use Rattle.demands.proofs.Demand3.{Start, CallRun, next, load-emptied}
 
 -- words for states, as they are lent
 abbrev pub lentStates : List ℕ
-lentStates = replicate 9 7
+lentStates = replicate 24586 7
 
 -- frames, a table, and no state
 abbrev pub site : List ℕ → List ℕ → Site

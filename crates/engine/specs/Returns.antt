@@ -18,11 +18,11 @@ use Rattle.definitions.specs.Writing.{mapText}
 use Rattle.definitions.specs.Load.{deviceRanged}
 use Rattle.definitions.specs.States.{drivesIn, statesOf, numbersOf, namesOf, stated, named, devicesNamed, putState, returnMoves}
 use Rattle.definitions.specs.Calls.{wholeWith, roomForTable, independent, fresh, roomForMoves, returnCase, returnNumber, returnBy, returnAnswer, returnOf}
-use Rattle.keeping.specs.States.{how-many, stated-is, named-fits}
+use Rattle.keeping.specs.States.{how-many, each-has, stated-is, named-fits}
 use Rattle.survey.specs.declared.surveys.Findings.{Findings}
 use Rattle.survey.specs.Between.{Answers}
 use Rattle.moves.specs.Changes.{told-length}
-use Rattle.states.specs.Words.{placeOf, each-has, named-place, devices-named}
+use Rattle.states.specs.Words.{placeOf, named-place, devices-named}
 use Rattle.returning.specs.Returning.{drivesAt, Spelt}
 use Rattle.engine.specs.declared.edit.Edited.{Edited}
 use Rattle.engine.specs.Answers.{editAnswer}

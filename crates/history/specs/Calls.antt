@@ -27,7 +27,8 @@ use Rattle.keeping.specs.Returned.{state-groups, state-width, state-independent
 use Rattle.keeping.specs.States.{kept-stated, Stated, store-named, store-devices, stored-states, return-loadable}
 use Rattle.tracing.specs.Listed.{entryAt, table-width}
 use Rattle.tracing.specs.Edited.{put-independent}
--- passed on to those who speak of `Own`
+-- passed on to those who speak of lists of calls, and of `Own`
+pub use Rattle.definitions.specs.Calls.{Site}
 pub use Rattle.tracing.specs.Moves.{MovesTraced}
 use Rattle.tracing.specs.Moves.{moves-traced, moveBelow}
 use Rattle.history.specs.Returns.{Passed, MovesBetween, traced-between, moves-between, returned-cause, returned-between}
@@ -39,13 +40,7 @@ use Rattle.history.specs.States as states
 
 -- ---- calls
 
--- what goes on from call to call: the map's frames, the table and the states, as they are lent
-pub record Site : Type 0 where
-  pub frames : List ℕ
-  pub table : List ℕ
-  pub states : List ℕ
-
--- its map, and its states
+-- the map of a site, and its states
 abbrev pub mapAt : Site → Map
 mapAt s = mapOf (s .frames)
 

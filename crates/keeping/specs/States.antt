@@ -4,18 +4,19 @@ use mathlib.Core.Bool.{Bool, true, false, cond, _&&_, _||_, false≢true}
 use mathlib.Core.List.{List, [], _∷_, _++_, map, append-assoc}
 use Prim.Native.Nat.{ℕ, zero, suc, _+_, _*_, _<_, _≤_}
 use native.Mathlib.Omega.{arith}
+use native.Mathlib.Nat.{mul-le-mul-right}
 use lib.Dec.{leb, ltb, eqb}
 use lib.ListN.{length, getD, drop, length-map}
 use lib.Seq.{drop-at, getD-drop}
-use borrow.Author.Tests.{leb-true, ltb-true, eqb-true, eqb-false, le-leb, ne-eqb}
+use borrow.Author.Tests.{leb-true, ltb-true, eqb-true, eqb-false, le-leb, eq-eqb, ne-eqb}
 use Rattle.definitions.specs.declared.Device.{Device}
 use Rattle.definitions.specs.Lists.{every, joined, has, distinct, same, over}
 use Rattle.definitions.specs.Map.{Map}
 use Rattle.definitions.specs.Load.{deviceRanged}
-use Rattle.definitions.specs.States.{NamedState, driveWords, stateWords, drivesEach, wordsOf, drivesIn, stateSize, statesIn, statesOf, numbersOf, stateFits, namesOf, stated, named, roomForName, storeIn, stateNow, stored, devicesNamed, putState}
+use Rattle.definitions.specs.States.{NamedState, driveWords, stateWords, drivesEach, wordsOf, drivesIn, stateSize, statesIn, statesOf, numbersOf, stateFits, countFits, namesOf, stated, named, roomForName, storeIn, stateNow, stored, devicesNamed, putState}
 use Rattle.laws.specs.Lists.{both, and-both, every-head, every-tail, same-is, is-same}
 use Rattle.laws.specs.Counting.{distinct-head, distinct-tail}
-use Rattle.laws.specs.Loadable.{Loadable, numbers, ranged-is}
+use Rattle.laws.specs.Loadable.{Loadable, numbers, ranged-is, bounds}
 use Rattle.keeping.specs.Returned.{state-loadable}
 
 -- ---- states in words, and out of them again
@@ -221,18 +222,44 @@ pub stated-is : (m : Map) (ws : List ℕ) → stated m ws ≡ true → Stated m 
 unfolding stated
 stated-is m ws e =
     let ss = statesOf ws in
-    let q1 = both (leb (getD ws 0 0) 8 && every (stateFits m) ss) (distinct (namesOf ss)) e in
-    let q0 = both (leb (getD ws 0 0) 8) (every (stateFits m) ss) (q1 .0) in
+    let a = leb (getD ws 0 0) 8 in
+    let q2 = both (a && countFits m ws && every (stateFits m) ss) (distinct (namesOf ss)) e in
+    let q1 = both (a && countFits m ws) (every (stateFits m) ss) (q2 .0) in
+    let q0 = both a (countFits m ws) (q1 .0) in
     record {
       few = omega (arith, leb-true (getD ws 0 0) 8 (q0 .0), how-many ws);
-      each = q0 .1;
-      names = q1 .1;
+      each = q1 .1;
+      names = q2 .1;
     }
+
+-- the second word, where there are any that fit the map
+pub each-has : (m : Map) (ws : List ℕ) → Stated m ws → 0 < getD ws 0 0 → getD ws 1 0 ≡ length (m .devices)
+unfolding statesOf statesIn
+each-has m ws s h = go (getD ws 0 0) h (fit-sized m (statesOf ws) (s .each))
+  where
+    go : (c : ℕ) → 0 < c → Sized (length (m .devices)) (statesIn (getD ws 1 0) c (drop 2 ws)) → getD ws 1 0 ≡ length (m .devices)
+    go zero h o = absurd (omega arith)
+    go (suc c) h o = sym (drives-count (getD ws 1 0) _) ∙ o .0
+
+count-fits : (m : Map) (ws : List ℕ) → Stated m ws → countFits m ws ≡ true
+unfolding countFits
+count-fits m ws s = go (getD ws 0 0) (each-has m ws s)
+  where
+    go : (c : ℕ) → (0 < c → getD ws 1 0 ≡ length (m .devices)) → eqb c 0 || eqb (getD ws 1 0) (length (m .devices)) ≡ true
+    go zero f = refl
+    go (suc c) f = rw (ne-eqb (suc c) 0 (λ e. omega (arith, e)), eq-eqb (getD ws 1 0) (length (m .devices)) (f (omega arith))) refl
 
 -- and put together
 pub is-stated : (m : Map) (ws : List ℕ) → Stated m ws → stated m ws ≡ true
 unfolding stated
-is-stated m ws s = rw (le-leb (getD ws 0 0) 8 (omega (arith, s .few, how-many ws)), s .each, s .names)
+is-stated m ws s = rw (le-leb (getD ws 0 0) 8 (omega (arith, s .few, how-many ws)), count-fits m ws s, s .each, s .names)
+
+-- all that it answers yes of lies within the words that are lent: no default is read behind them
+pub stated-inside : (m : Map) (ws : List ℕ) → Loadable m → length ws ≡ 24586 → Stated m ws → 2 + length (statesOf ws) * stateSize (length (m .devices)) ≤ length ws
+stated-inside m ws l w s =
+    let k : length (m .devices) ≤ 1024 = bounds m l .devices in
+    let a : length (statesOf ws) * stateSize (length (m .devices)) ≤ 8 * stateSize (length (m .devices)) = mul-le-mul-right (stateSize (length (m .devices))) (s .few) in
+    omega (arith, w, k, a)
 
 -- it goes by the numbers of the map's drives alone
 pub kept-stated : (m n : Map) (ws : List ℕ) → numbers m ≡ numbers n → Stated m ws → Stated n ws

@@ -10,18 +10,14 @@ use Rattle.definitions.specs.declared.Change.the-variants.{Acceptance, Weight, 
 use Rattle.definitions.specs.Map.{mapOf}
 use Rattle.definitions.specs.Rule.{widthOf}
 use Rattle.definitions.specs.Edit.{changeOf}
+-- passed on to those who speak of lines
+pub use Rattle.definitions.specs.Calls.{Site}
 use Rattle.definitions.specs.Calls.{loadOf, EditAnswer, editOf, StoreAnswer, storeOf, returnOf, WriteAnswer, writeOf, fillNumber}
 use Rattle.protocol.specs.declared.asked.Program.{Program}
 use Rattle.protocol.specs.declared.asked.Asked.{Asked}
 use Rattle.protocol.specs.declared.asked.Asked.the-variants.{Frames, Rows, Store, Return, Nothing}
 use Rattle.protocol.specs.Asked.{askedOf}
 use Rattle.protocol.specs.Lines.{refusalLine, rowLines}
-
--- what goes on from line to line: the map as its frames, the table, and the named states as their words
-pub record Site : Type 0 where
-  pub frames : List ℕ
-  pub table : List ℕ
-  pub states : List ℕ
 
 abbrev pub siteOf : List ℕ → List ℕ → List ℕ → Site
 siteOf frames table states = record { frames = frames; table = table; states = states }

@@ -1,6 +1,6 @@
 -- The words of named states, read at their places. Assumes nothing.
 use mathlib.Core.Path.{_≡_, refl, sym, ap, _∙_}
-use mathlib.Core.Bool.{Bool, true, false, cond, not, _&&_, _||_, and-assoc, and-false}
+use mathlib.Core.Bool.{Bool, true, false, cond, not, _&&_, _||_, and-false}
 use mathlib.Core.List.{List, [], _∷_}
 use Prim.Native.Nat.{ℕ, zero, suc, _+_, _-_, _*_, _<_, _≤_}
 use native.Mathlib.Omega.{arith}
@@ -14,10 +14,10 @@ use Rattle.definitions.specs.declared.Device.{Device}
 use Rattle.definitions.specs.Lists.{every, has, distinct, same}
 use Rattle.definitions.specs.Map.{Map}
 use Rattle.definitions.specs.Load.{deviceRanged}
-use Rattle.definitions.specs.States.{NamedState, drivesIn, stateSize, statesIn, statesOf, numbersOf, stateFits, namesOf, stated, named, roomForName, devicesNamed}
+use Rattle.definitions.specs.States.{NamedState, drivesIn, stateSize, statesIn, statesOf, numbersOf, stateFits, countFits, namesOf, stated, named, roomForName, devicesNamed}
 use Rattle.laws.specs.Lists.{every-at, every-map, every-mono, getD-mapped}
 use Rattle.laws.specs.Loadable.{device-ranged}
-use Rattle.keeping.specs.States.{drives-count, driveAt, drive-at, states-count, how-many, Sized, fit-sized, Stated, stated-is}
+use Rattle.keeping.specs.States.{drives-count, driveAt, drive-at, states-count, how-many, Stated, each-has, stated-is}
 use Rattle.text.specs.Records.{noDevice}
 
 -- ---- the drives of a state
@@ -133,15 +133,6 @@ state-cons n c ws k h =
 -- at most eight
 pub few-states : (m : Map) (ws : List ℕ) → Stated m ws → getD ws 0 0 ≤ 8
 few-states m ws s = omega (arith, s .few, how-many ws)
-
--- the second word, where there are any that fit the map
-pub each-has : (m : Map) (ws : List ℕ) → Stated m ws → 0 < getD ws 0 0 → getD ws 1 0 ≡ length (m .devices)
-unfolding statesOf statesIn
-each-has m ws s h = go (getD ws 0 0) h (fit-sized m (statesOf ws) (s .each))
-  where
-    go : (c : ℕ) → 0 < c → Sized (length (m .devices)) (statesIn (getD ws 1 0) c (drop 2 ws)) → getD ws 1 0 ≡ length (m .devices)
-    go zero h o = absurd (omega arith)
-    go (suc c) h o = sym (drives-count (getD ws 1 0) _) ∙ o .0
 
 -- so they are read by the map's number of drives
 pub states-are : (m : Map) (ws : List ℕ) → Stated m ws → statesOf ws ≡ statesIn (length (m .devices)) (getD ws 0 0) (drop 2 ws)
@@ -314,25 +305,22 @@ module _ (ns ws : List ℕ) (n c k : ℕ) where
 
 -- the question, by its parts
 module _ (m : Map) (ws : List ℕ) where
-  stated-parts : stated m ws ≡ (leb (getD ws 0 0) 8 && goodStates (numbersOf (m .devices)) (statesOf ws))
-  unfolding stated stateFits
-  stated-parts = and-assoc (leb (getD ws 0 0) 8) (every (stateFits m) (statesOf ws)) (distinct (namesOf (statesOf ws)))
-
   pub stated-many : 8 < getD ws 0 0 → stated m ws ≡ false
-  stated-many h = stated-parts ∙ rw (lt-leb (getD ws 0 0) 8 h) refl
+  unfolding stated
+  stated-many h = rw (lt-leb (getD ws 0 0) 8 h) refl
 
   pub stated-none : getD ws 0 0 ≡ 0 → stated m ws ≡ true
-  unfolding statesOf statesIn every distinct
-  stated-none e = stated-parts ∙ rw e refl
+  unfolding stated countFits statesOf statesIn every distinct
+  stated-none e = rw e refl
 
   -- states of another number of drives are not of this map
   pub stated-other : 0 < getD ws 0 0 → (getD ws 1 0 ≡ length (m .devices) → ⊥) → stated m ws ≡ false
-  stated-other h f = go (stated m ws) refl
-    where
-      go : (b : Bool) → stated m ws ≡ b → b ≡ false
-      go true e = absurd (f (each-has m ws (stated-is m ws e) h))
-      go false e = refl
+  unfolding stated countFits
+  stated-other h f =
+      rw (ne-eqb (getD ws 0 0) 0 (λ e. omega (arith, e)), ne-eqb (getD ws 1 0) (length (m .devices)) f, and-false (leb (getD ws 0 0) 8)) refl
 
-  pub stated-good : (n : ℕ) → getD ws 0 0 ≤ 8 → getD ws 1 0 ≡ n → goodStates (numbersOf (m .devices)) (statesIn n (getD ws 0 0) (drop 2 ws)) ≡ stated m ws
-  unfolding statesOf
-  stated-good n h e = sym (stated-parts ∙ rw (le-leb (getD ws 0 0) 8 h, e) refl)
+  pub stated-good : (n : ℕ) → 0 < getD ws 0 0 → getD ws 0 0 ≤ 8 → getD ws 1 0 ≡ n → n ≡ length (m .devices)
+      → goodStates (numbersOf (m .devices)) (statesIn n (getD ws 0 0) (drop 2 ws)) ≡ stated m ws
+  unfolding stated countFits stateFits statesOf
+  stated-good n z h e k =
+      sym (rw (le-leb (getD ws 0 0) 8 h, ne-eqb (getD ws 0 0) 0 (λ y. omega (arith, y, z)), eq-eqb (getD ws 1 0) (length (m .devices)) (e ∙ k), e) refl)

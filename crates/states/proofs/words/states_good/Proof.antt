@@ -85,7 +85,8 @@ returns-4 c =
     let ws = s .args .states .now in
     c .good-states .ensures
     ∙ ap (λ (ns : List ℕ). goodStates ns (statesIn (length ns) (getD ws 0 0) (drop 2 ws))) (taken f)
-    ∙ stated-good (mapOf (s .args .t .now)) ws (length (numbers s)) (o .if1 .left) (d .if3 .left ∙ count s)
+    ∙ stated-good (mapOf (s .args .t .now)) ws (length (numbers s)) (omega (arith, d .before .before .if2 .left)) (o .if1 .left) (d .if3 .left ∙ count s)
+    (sym (count s) ∙ s .pre .0 .1)
 
 pub states-good-spec : {M : Type 1} → statement M
 states-good-spec =
