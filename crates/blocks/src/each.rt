@@ -12,7 +12,7 @@ use definitions::Action;
 use text::Shape;
 
 // What a step is asked: is it no first-n select; is it no select through of type 0?
-#[derive(Drop)]
+#[derive(Clone, Copy)]
 pub enum Asked {
     NotFirstN,
     ThroughTyped,

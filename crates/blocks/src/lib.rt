@@ -1,4 +1,6 @@
 // The rule of a map's text: what its steps do, and the questions about them.
+#![tactic(auto)]
+
 pub mod actions;
 pub mod each;
 pub mod independent;

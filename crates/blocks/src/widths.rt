@@ -14,7 +14,7 @@ use definitions::Action;
 use text::Shape;
 
 // The product in the block so far, and the sum over the blocks emitted.
-#[derive(Drop)]
+#[derive(Clone, Copy)]
 pub struct Tally {
     pub block: u32,
     pub whole: u32,
@@ -32,6 +32,7 @@ fn grown(p: u32, n: u32) -> u32
 }
 
 // What a block of product p adds to the sum. One that is too wide adds 33, so that the sum alone tells that the answer is no.
+#[tactic(auto, using(std::proofs::lemmas::Bool::Decides::nat_tests), unfolding(crate::specs::Widths::emitted))]
 fn emitted(p: u32) -> u32
     ensures { result ≡ emitted p }
 {

@@ -24,14 +24,14 @@ use placement::{rule, select};
 use walk::{Search, Wanted};
 
 // What a select of both runs puts out, if no walk has parted.
-#[derive(Drop)]
+#[derive(Clone, Copy)]
 pub struct Choice {
     pub parted: bool,
     pub chosen: Chosen,
 }
 
 // Where both runs have come to, if no walk has parted.
-#[derive(Drop)]
+#[derive(Clone, Copy)]
 pub struct Joint {
     pub parted: bool,
     pub run: Progress,

@@ -1,5 +1,7 @@
 // Document 01, "Table, edits, moves": the cause of each place of a group's list between two runs, old and new, over one plan, of one rule
 // whose selects leave holes.
+#![tactic(auto)]
+
 ghost use Rattle.std.specs.Prelude.{◌≡◌, true, ◌++◌, ℕ, ◌+◌, ◌/◌, ◌%◌, ◌<◌, ◌≤◌, length, get_or, take};
 ghost use Rattle.definitions.specs.Lists.{every};
 ghost use Rattle.definitions.specs.View.{View};
@@ -29,7 +31,7 @@ use walk::{Search, Wanted};
 
 // Both runs after some steps: where each has come to, and the causes of the places of their working lists and of those emitted so far. A
 // cause of 0 says that the two places are the same, walks and all.
-#[derive(Drop)]
+#[derive(Clone, Copy)]
 pub struct Both {
     pub old: Progress,
     pub new: Progress,
@@ -38,7 +40,7 @@ pub struct Both {
 }
 
 // What a place of a select is made from: the entry in the old run and the cause of the place above it, and its rank there.
-#[derive(Drop)]
+#[derive(Clone, Copy)]
 pub struct Above {
     pub entry: u32,
     pub cause: u32,

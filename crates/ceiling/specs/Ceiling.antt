@@ -34,7 +34,8 @@ use Rattle.laws.specs.Loadable.{Loadable, put-loadable, put-groups, put-width, p
 use Rattle.laws.specs.Found.{device-number}
 use Rattle.tracing.specs.Edited.{put_step, put-independent}
 use Rattle.tracing.specs.Traced.{judge, at_old, at_new}
-use Rattle.tracing.specs.Moves.{move_of, row_move_lem, runs-count, moves-traced}
+use Rattle.tracing.specs.Moves.{move_of, row_move_lem, runs-count}
+use Rattle.tracing.proofs.Moves.{moves-traced}
 use Rattle.ceiling.specs.Source.{in_list, Source, source}
 
 -- ---- how many moves
@@ -163,18 +164,24 @@ module _ (m : Map) (d a : ℕ) (L : Loadable m) (ind : independent m ≡ true) (
       (accepted-more (view_of m') (view_of m) x d refl (omega (arith, small)) l (passed-accepted (accepted (view_of m') x d) (sym q.1 ∙ s.judged.1)))
 
   -- LOWERED: "moves places only in groups whose list held that drive before the edit"
-  pub lowered : a ≤ acceptance_of m d → (v : Move) → Memᴰ v (moves_of m m') → holds d (placed_of m v.group) ≡ true
+  held-before : a ≤ acceptance_of m d → (v : Move) → Memᴰ v (moves_of m m') → holds d (placed_of m v.group) ≡ true
   unfolding view_of
-  lowered l v i =
+  held-before l v i =
       let s = source m c v.group d a refl ((moves-traced m c L ind f).each v i).cause in
       ⊎_elim (λ q. old-list v.group s q.0) (λ q. absurd (new-passes v.group s q (omega (arith, new_is, l)))) s.ends
 
+  pub lowered : a ≤ acceptance_of m d → (v : Move) → Memᴰ v (moves_of m m') → holds d (placed_of m v.group) ≡ true
+  lowered = held-before
+
   -- RAISED: "and raising it only in groups whose list holds it afterwards"
-  pub raised : acceptance_of m d ≤ a → (v : Move) → Memᴰ v (moves_of m m') → holds d (placed_of m' v.group) ≡ true
+  held-after : acceptance_of m d ≤ a → (v : Move) → Memᴰ v (moves_of m m') → holds d (placed_of m' v.group) ≡ true
   unfolding view_of
-  raised l v i =
+  held-after l v i =
       let s = source m c v.group d a refl ((moves-traced m c L ind f).each v i).cause in
       ⊎_elim (λ q. absurd (old-passes v.group s q (omega (arith, new_is, l)))) (λ q. new-list v.group s q.1) s.ends
+
+  pub raised : acceptance_of m d ≤ a → (v : Move) → Memᴰ v (moves_of m m') → holds d (placed_of m' v.group) ≡ true
+  raised = held-after
 
   -- "Moves are then at most W times the number of those groups."
   most : (h : Map) → h.groups ≡ m.groups → ((v : Move) → Memᴰ v (moves_of m m') → holds d (placed_of h v.group) ≡ true)
@@ -186,12 +193,12 @@ module _ (m : Map) (d a : ℕ) (L : Loadable m) (ind : independent m ≡ true) (
 
   pub lowered-most : a ≤ acceptance_of m d → length (moves_of m m') ≤ ceiling m d
   unfolding ceiling
-  lowered-most l = most m refl (lowered l)
+  lowered-most l = most m refl (held-before l)
 
   pub raised-most : acceptance_of m d ≤ a → length (moves_of m m') ≤ ceiling m' d
   unfolding ceiling
   raised-most l =
-      subst (λ (k : ℕ). length (moves_of m m') ≤ k * holders m' d) (sym (put-width m c)) (most m' (put-groups m c) (raised l))
+      subst (λ (k : ℕ). length (moves_of m m') ≤ k * holders m' d) (sym (put-width m c)) (most m' (put-groups m c) (held-after l))
 
   -- an acceptance set to the value that it has is both, and moves nothing
   pub unchanged : a ≡ acceptance_of m d → moves_of m m' ≡ []

@@ -7,7 +7,7 @@ ghost use Rattle.compile.specs.Reading.{Readable};
 use frames::records;
 use text::Shape;
 
-#[derive(Drop)]
+#[derive(Clone, Copy)]
 pub struct Buckets {
     pub types: [u32; 256],
     pub kinds: [u32; 256],

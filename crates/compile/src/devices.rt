@@ -15,7 +15,7 @@ use definitions::{Change, Device};
 use frames::records;
 use text::Shape;
 
-#[derive(Drop)]
+#[derive(Clone, Copy)]
 pub struct Devices {
     pub weights: [u32; 1024],
     pub acceptances: [u32; 1024],

@@ -1,4 +1,6 @@
 // A map's text made into flat arrays, once per call.
+#![tactic(auto)]
+
 ghost use Rattle.std.specs.Prelude.{◌≡◌, true, ℕ, ◌+◌, ◌*◌, ◌≤◌, length, drop};
 ghost use Rattle.definitions.specs.Frames.{frames_in};
 ghost use Rattle.definitions.specs.Map.{Map, map_of, actions_of};
@@ -106,7 +108,7 @@ pub fn plan_of(t: &[u8], s: Shape) -> Plan
 }
 
 // The values of a map, and the weights of its buckets, by number.
-#[derive(Drop)]
+#[derive(Clone, Copy)]
 pub struct Weighed {
     pub values: Values,
     pub loads: [u32; 256],

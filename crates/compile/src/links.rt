@@ -6,7 +6,7 @@ ghost use Rattle.compile.specs.Reading.{Readable};
 use frames::records;
 use text::Shape;
 
-#[derive(Drop)]
+#[derive(Clone, Copy)]
 pub struct Children {
     // Of each bucket, by its number: where its children begin, and how many they are.
     pub first: [u32; 256],

@@ -32,6 +32,6 @@ module _ (g : Gathered) (space : List ℕ) (h : Gathers g space) where
       }
 
 -- nothing is read yet
-pub gathers-none : (space : List ℕ) (go failed : Bool) → Gathers (record { spot = Start; map = 0; read = 0; go = go; failed = failed }) space
+pub gathers-none : (space : List ℕ) (go : Bool) → Gathers (record { spot = Start; map = 0; read = 0; go = go }) space
 unfolding map_length map_from spot_after
-gathers-none space go failed = record { within = omega arith; own = omega arith; map_is = refl; spot_is = refl }
+gathers-none space go = record { within = omega arith; own = omega arith; map_is = refl; spot_is = refl }

@@ -1,38 +1,35 @@
 // What programs `fill` and `operate` do with the bytes of standard input: reads a map and then lines; prints the row of each group, then what each
 // line leads to, as soon as the bytes that ask for it are there. It only moves bytes: what they mean and what is printed is decided in `engine`,
 // `protocol` and `report`. At the first read or write that fails it stops.
+#![tactic(auto)]
+
 mod system;
 
-ghost use Rattle.std.specs.Prelude.{◌≡◌, true, List, ◌++◌, ℕ, ◌+◌, ◌*◌, ◌<◌, ◌≤◌, length, take};
+ghost use Rattle.std.specs.Prelude.{◌≡◌, true, List, ◌++◌, ℕ, ◌+◌, ◌*◌, ◌<◌, ◌≤◌, length, take, IfOk, OnOk, OnErr};
+ghost use Rattle.std.specs.Io.KnownBytes.{Consumes};
 ghost use Rattle.report.specs.Edits.{site_of, states_at_start, session, bytes_of};
 ghost use Rattle.report.specs.Kept.{Short, Keeps};
 ghost use Rattle.report.specs.Reads.{Led, Ended};
 ghost use Rattle.report.specs.Says.{Within};
+ghost use Rattle.console.specs.declared.Gathered.{Gathered};
 ghost use Rattle.console.specs.Gathering.{Gathers};
+ghost use Rattle.console.specs.Leaving.{Came, Left};
 
 use protocol::asked::Program;
 use protocol::input;
 use protocol::input::Spot;
 use report::edits;
 use report::edits::{Line, Said};
-use system::Got;
+use std::io::{Read, Write};
+use system::Failure;
 
-// What was read for the map: where the map stands, how many of the bytes are its own, how many were read; whether to read on, and whether a
-// read failed.
-#[derive(Drop)]
+// What was read for the map: where the map stands, how many of the bytes are its own, how many were read, and whether to read on.
+#[derive(Clone, Copy)]
 struct Gathered {
     spot: Spot,
     map: usize,
     read: usize,
     go: bool,
-    failed: bool,
-}
-
-// The line under way, and whether all went well.
-#[derive(Drop)]
-struct Taken {
-    line: Line,
-    ok: bool,
 }
 
 fn wide(x: u32) -> usize
@@ -41,34 +38,43 @@ fn wide(x: u32) -> usize
     x as usize
 }
 
-fn print_refusal(p: Program, number: u32) {
+fn print_refusal<W: Write>(stdout: &mut W, number: u32) -> Result<(), Failure> {
     let mut line = [0u8; 5];
     protocol::printed::refusal_line(number, &mut line);
-    system::print(p, &line);
+    system::print(stdout, &line)
 }
 
 // Prints a row by way of line, which has the row line's length.
-fn print_row(p: Program, group: u32, row: &[u16], line: &mut [u8]) -> bool
+fn print_row<W: Write>(
+    stdout: &mut W,
+    group: u32,
+    row: &[u16],
+    line: &mut [u8],
+) -> Result<(), Failure>
     requires { (length line.old ≡ 11 + 4 * length row.now) × (length row.now ≤ 32) }
 {
     protocol::printed::row_line(group, row, line);
-    system::print(p, line)
+    system::print(stdout, line)
 }
 
 // Prints the rows of the groups below `groups`, each w places wide, by way of line.
-fn print_by_line(p: Program, table: &[u16], groups: u32, w: usize, line: &mut [u8]) -> bool
+fn print_by_line<W: Write>(
+    stdout: &mut W,
+    table: &[u16],
+    groups: u32,
+    w: usize,
+    line: &mut [u8],
+) -> Result<(), Failure>
     requires { (w ≤ 32) × (groups * w ≤ length table.now) × (length line.old ≡ 11 + 4 * w) }
 {
     let mut g: u32 = 0;
     while g < groups {
         let a = wide(g) * w;
         let e = a + w;
-        if !print_row(p, g, &table[a..e], line) {
-            return false;
-        }
+        print_row(stdout, g, &table[a..e], line)?;
         g += 1;
     }
-    true
+    Ok(())
 }
 
 // One byte more than load takes, so that a map that does not fit is refused as too long.
@@ -93,112 +99,125 @@ fn moves_space() -> [u8; 65536]
 }
 
 // Prints the rows of the groups below `groups`, each w places wide.
-fn print_rows(p: Program, table: &[u16], groups: u32, w: usize) -> bool
+fn print_rows<W: Write>(stdout: &mut W, table: &[u16], groups: u32, w: usize) -> Result<(), Failure>
     requires { (w ≤ 32) × (groups * w ≤ length table.now) }
 {
     let n = 11 + 4 * w;
     let mut space = line_space();
-    print_by_line(p, table, groups, w, &mut space[..n])
+    print_by_line(stdout, table, groups, w, &mut space[..n])
 }
 
 // Loads the map, which empties the states, fills the table and prints it; answers whether lines follow. "A refused load or fill prints that frame
 // alone."
-fn place_all(p: Program, map: &[u8], table: &mut [u16], states: &mut [u32; 24586]) -> bool
+fn place_all<W: Write>(
+    stdout: &mut W,
+    map: &[u8],
+    table: &mut [u16],
+    states: &mut [u32; 24586],
+) -> Result<bool, Failure>
     ensures { states.new ≡ states_at_start map.now states.old }
 {
     let sizes = engine::load::load(map, states);
     if sizes.number != 0 {
-        print_refusal(p, sizes.number);
-        return false;
+        print_refusal(stdout, sizes.number)?;
+        return Ok(false);
     }
     let filled = engine::fill::fill(map, table);
     if filled.number != 0 {
-        print_refusal(p, filled.number);
-        return false;
+        print_refusal(stdout, filled.number)?;
+        return Ok(false);
     }
-    print_rows(p, table, sizes.groups, wide(sizes.places))
+    print_rows(stdout, table, sizes.groups, wide(sizes.places))?;
+    Ok(true)
 }
 
-// Whether there is more of the map to read.
-fn goes_on(got: Got, spot: Spot) -> bool
-    ensures { result ≡ true → 0 < got.count }
+// Whether there is more of the map to read behind a read of so many bytes.
+fn goes_on(count: usize, spot: Spot) -> bool
+    ensures { result ≡ true → 0 < count }
 {
-    if got.count == 0 {
+    if count == 0 {
         return false;
     }
     !input::is_whole(spot)
 }
 
-// One read more for the map.
-fn gather_some(p: Program, space: &mut [u8], g: Gathered) -> Gathered
+// One read more for the map. An error leaves what was gathered.
+fn gather_some<R: Read>(stdin: &mut R, space: &mut [u8], g: Gathered) -> Result<Gathered, Failure>
     requires { Gathers g space.old }
-    ensures { Gathers result space.new × (result.go ≡ true → g.read < result.read) }
+    ensures ok { IfOk result (λ r. Gathers r space.new × (r.go ≡ true → g.read < r.read)) }
+    ensures err { OnErr result (Gathers g space.new) }
 {
     let n = g.read;
     let before = g.spot;
-    let got = system::read_some(p, &mut space[n..]);
-    let e = n + got.count;
+    let count = system::read_some(stdin, &mut space[n..])?;
+    let e = n + count;
     let part = input::map_part(before, &space[n..e]);
     let spot = part.spot;
-    Gathered {
+    Ok(Gathered {
         spot,
         map: g.map + part.count,
         read: e,
-        go: goes_on(got, spot),
-        failed: got.failed,
-    }
+        go: goes_on(count, spot),
+    })
 }
 
-// Reads until the map is whole, the input ends, a read fails or the space is full.
-fn gather(p: Program, space: &mut [u8]) -> Gathered
-    ensures { Gathers result space.new }
+// Reads until the map is whole, the input ends or the space is full. An error leaves what was gathered.
+fn gather<R: Read>(stdin: &mut R, space: &mut [u8]) -> Result<Gathered, Failure>
+    ensures ok { IfOk result (λ r. Gathers r space.new) }
+    ensures err { OnErr result ((r : Gathered) × Gathers r space.new) }
 {
     let mut g = Gathered {
         spot: Spot::Start,
         map: 0,
         read: 0,
         go: true,
-        failed: false,
     };
     while g.read < space.len() {
-        let next = gather_some(p, space, g);
+        let next = gather_some(stdin, space, g)?;
         if !next.go {
-            return next;
+            return Ok(next);
         }
         g = next;
     }
-    g
+    Ok(g)
 }
 
-fn print_front(p: Program, space: &[u8], n: usize) -> bool
+fn print_front<W: Write>(stdout: &mut W, space: &[u8], n: usize) -> Result<(), Failure>
     requires { n ≤ length space.now }
 {
-    system::print(p, &space[..n])
+    system::print(stdout, &space[..n])
 }
 
 // Prints what was said: bytes of the space, then rows of the table.
-fn print_said(p: Program, said: Said, table: &[u16], space: &[u8]) -> bool
+fn print_said<W: Write>(
+    stdout: &mut W,
+    said: Said,
+    table: &[u16],
+    space: &[u8],
+) -> Result<(), Failure>
     requires { Within said table.now space.now }
 {
-    if !print_front(p, space, said.bytes) {
-        return false;
-    }
-    print_rows(p, table, said.groups, said.width)
+    print_front(stdout, space, said.bytes)?;
+    print_rows(stdout, table, said.groups, said.width)
 }
 
-// Takes the bytes read and prints what each line leads to, before the space is used for the next.
-fn take_bytes(
+// Takes the bytes read and prints what each line leads to, before the space is used for the next. An error leaves what some of them led to.
+fn take_bytes<W: Write>(
     p: Program,
+    stdout: &mut W,
     map: &mut [u8],
     table: &mut [u16],
     states: &mut [u32; 24586],
     line: Line,
     read: &[u8],
     space: &mut [u8],
-) -> Taken
+) -> Result<Line, Failure>
     requires { (5 ≤ length space.old) × Short line }
-    ensures { Short result.line × ((xs : List ℕ) → Keeps line xs → result.ok ≡ true → Led result.line (site_of map.new table.new states.new)
+    ensures short { IfOk result (λ l. Short l) }
+    ensures led { IfOk result (λ l. (xs : List ℕ) → Keeps line xs → Led l (site_of map.new table.new states.new)
         (bytes_of p space.old (session (site_of map.old table.old states.old) xs) read.now)) }
+    ensures err { OnErr result ((xs : List ℕ) → Keeps line xs → (n : ℕ) × Came p space.old (session (site_of map.old table.old states.old) xs)
+        (take n read.now) (site_of map.new table.new states.new)) }
 {
     let mut l = line;
     let mut i: usize = 0;
@@ -206,102 +225,118 @@ fn take_bytes(
         let run = edits::on_bytes(p, map, table, states, l, &read[i..], space);
         let turn = run.turn;
         l = turn.line;
-        if !print_said(p, turn.said, table, space) {
-            return Taken { line: l, ok: false };
-        }
+        print_said(stdout, turn.said, table, space)?;
         i += run.used;
     }
-    Taken { line: l, ok: true }
+    Ok(l)
 }
 
-// Reads on to the input's end. The contract says that some bytes bs lead there; that they are those read, no contract can say. The turns are
-// counted down as in `system`.
-fn take_input(
+// Reads on to the input's end: the bytes bs that lead there are those that were read, of a reader that knows its bytes. Standard input does not, so of
+// it no contract can say. An error leaves what some bytes led to. The turns are counted as in `system`.
+fn take_input<R: Read, W: Write>(
     p: Program,
+    stdin: &mut R,
+    stdout: &mut W,
     map: &mut [u8],
     table: &mut [u16],
     states: &mut [u32; 24586],
     line: Line,
     buffer: &mut [u8],
     space: &mut [u8],
-) -> Taken
+) -> Result<Line, Failure>
     requires { (5 ≤ length space.old) × Short line }
-    ensures { Short result.line × ((xs : List ℕ) → Keeps line xs → result.ok ≡ true → (bs : List ℕ) × Led result.line (site_of map.new table.new states.new)
-        (bytes_of p space.old (session (site_of map.old table.old states.old) xs) bs)) }
+    ensures short { IfOk result (λ l. Short l) }
+    ensures led { IfOk result (λ l. (xs : List ℕ) → Keeps line xs → (bs : List ℕ) × Consumes (R.remaining stdin.old) (R.remaining stdin.new) bs
+        × Led l (site_of map.new table.new states.new) (bytes_of p space.old (session (site_of map.old table.old states.old) xs) bs)) }
+    ensures err { OnErr result ((xs : List ℕ) → Keeps line xs → (bs : List ℕ) × Came p space.old (session (site_of map.old table.old states.old) xs)
+        bs (site_of map.new table.new states.new)) }
 {
     let mut l = line;
-    let mut turns = u64::MAX;
-    while turns > 0 {
-        let got = system::read_some(p, buffer);
-        let n = got.count;
+    for _ in 0..u64::MAX {
+        let n = system::read_some(stdin, buffer)?;
         if n == 0 {
-            return Taken {
-                line: l,
-                ok: !got.failed,
-            };
+            break;
         }
-        let taken = take_bytes(p, map, table, states, l, &buffer[..n], space);
-        if !taken.ok {
-            return taken;
-        }
-        l = taken.line;
-        turns -= 1;
+        l = take_bytes(p, stdout, map, table, states, l, &buffer[..n], space)?;
     }
-    Taken { line: l, ok: true }
+    Ok(l)
 }
 
-// "Each later line, an unended last one too". The first n bytes of the buffer are those that were read behind the map; some
-// bytes bs follow them, as in `take_input`, and the end of the input. It answers whether all went well.
-fn take_lines(
+// "Each later line, an unended last one too". The first n bytes of the buffer are those that were read behind the map; the bytes bs follow them,
+// which are read here, and the end of the input. An error leaves what some bytes led to, or those and their end.
+fn take_lines<R: Read, W: Write>(
     p: Program,
+    stdin: &mut R,
+    stdout: &mut W,
     map: &mut [u8],
     table: &mut [u16],
     states: &mut [u32; 24586],
     buffer: &mut [u8],
     n: usize,
     space: &mut [u8],
-) -> bool
+) -> Result<(), Failure>
     requires { (n ≤ length buffer.old) × (5 ≤ length space.old) }
-    ensures { result ≡ true → (bs : List ℕ) × Ended p space.old (site_of map.old table.old states.old) (take n buffer.old ++ bs)
-        (site_of map.new table.new states.new) }
+    ensures ended { OnOk result ((bs : List ℕ) × Consumes (R.remaining stdin.old) (R.remaining stdin.new) bs
+        × Ended p space.old (site_of map.old table.old states.old) (take n buffer.old ++ bs) (site_of map.new table.new states.new)) }
+    ensures err { OnErr result (Left p space.old (site_of map.old table.old states.old) (site_of map.new table.new states.new)) }
 {
-    let first = take_bytes(p, map, table, states, edits::no_line(), &buffer[..n], space);
-    if !first.ok {
-        return false;
-    }
-    let begun = first.line;
-    let last = take_input(p, map, table, states, begun, buffer, space);
-    if !last.ok {
-        return false;
-    }
-    let unended = last.line;
-    let said = edits::on_end(p, map, table, states, unended, space);
-    print_said(p, said, table, space)
+    let begun = take_bytes(
+        p,
+        stdout,
+        map,
+        table,
+        states,
+        edits::no_line(),
+        &buffer[..n],
+        space,
+    )?;
+    let last = take_input(p, stdin, stdout, map, table, states, begun, buffer, space)?;
+    let said = edits::on_end(p, map, table, states, last, space);
+    print_said(stdout, said, table, space)
 }
 
-// The program, from the first byte of its input to the end, by the table that it is lent.
-pub fn run(p: Program, table: &mut [u16]) {
-    let mut input = input_space();
-    let g = gather(p, &mut input);
-    if g.failed {
-        return;
-    }
+// The program between the two.
+fn take_all<R: Read, W: Write>(
+    p: Program,
+    stdin: &mut R,
+    stdout: &mut W,
+    table: &mut [u16],
+) -> Result<(), Failure> {
+    let mut space = input_space();
+    let g = gather(stdin, &mut space)?;
     let m = g.map;
     let n = g.read;
     let mut states = [0u32; 24586];
-    if !place_all(p, &input[..m], table, &mut states) {
-        return;
+    if !place_all(stdout, &space[..m], table, &mut states)? {
+        return Ok(());
     }
     let mut buffer = input_space();
-    let k = bytes::copy(&input[m..n], &mut buffer);
-    let mut space = moves_space();
+    let k = n - m;
+    buffer[..k].copy_from_slice(&space[m..n]);
+    let mut moves = moves_space();
     take_lines(
         p,
-        &mut input[..m],
+        stdin,
+        stdout,
+        &mut space[..m],
         table,
         &mut states,
         &mut buffer,
         k,
-        &mut space,
-    );
+        &mut moves,
+    )
+}
+
+fn name(p: Program) -> &'static str {
+    match p {
+        Program::Fill => "fill",
+        Program::Operate => "operate",
+    }
+}
+
+// The program, from the first byte of its input to the end, by the table that it is lent. What ends it early is told on standard error.
+pub fn run(p: Program, rt: &HostRuntime, table: &mut [u16]) {
+    if let Err(failure) = take_all(p, &mut rt.stdin(), &mut rt.stdout(), table) {
+        let _ = eprintln!(rt; "{}: {failure}", name(p));
+    }
 }

@@ -1,114 +1,115 @@
-// Reading and writing. A call that was interrupted or found the system not ready is tried again; one that failed is told on standard error,
-// with the system's reason. A proved loop has to end, and nothing says that these do: turns are counted down from a number that no run
-// uses up.
-ghost use Rattle.std.specs.Prelude.{◌≤◌, length};
+// Reading and writing. A call that was interrupted or found the system not ready is tried again. A proved loop has to end, and nothing says that
+// these do: their turns are counted up to a number that no run comes to.
+ghost use Rattle.std.specs.Prelude.{◌≡◌, ℕ, ◌<◌, ◌≤◌, length, take, IfOk, OnOk, OnErr};
+ghost use Rattle.std.specs.Io.KnownBytes.{Appends, Consumes, IsAtEnd, Keeps};
 
-use libc::{EAGAIN, EINTR, STDERR_FILENO, STDIN_FILENO, STDOUT_FILENO};
-use protocol::asked::Program;
+use std::io::{ErrorKind, Read, Write};
+use std::{fmt, io, str, thread};
 
-// How many bytes a read brought, none at the end of the input, and whether it failed.
+// What ends a program before its input does: a read or a write that failed, or an output that takes nothing.
+#[derive(Debug, Drop)]
+pub enum Failure {
+    Read(io::Error),
+    Write(io::Error),
+    TakesNothing,
+}
+
+impl fmt::Display for Failure {
+    fn fmt<W: fmt::Write>(&self, f: &mut fmt::Formatter<W>) -> fmt::Result {
+        match self {
+            Failure::Read(e) => write!(f, "cannot read standard input: {}", Reason(e)),
+            Failure::Write(e) => write!(f, "cannot write standard output: {}", Reason(e)),
+            Failure::TakesNothing => write!(f, "standard output takes nothing"),
+        }
+    }
+}
+
+// The system's words for an error, which std follows by its number.
 #[derive(Drop)]
-pub struct Got {
-    pub count: usize,
-    pub failed: bool,
-}
+struct Reason<'a>(&'a io::Error);
 
-// Whether the call that just failed is to be tried again.
-fn again() -> bool {
-    let reason = os::errno();
-    if reason == EAGAIN {
-        libc::sched_yield();
-        return true;
-    }
-    reason == EINTR
-}
-
-// What is told of a failure begins with the program's name.
-fn cannot_read(p: Program) {
-    match p {
-        Program::Fill => os::fail(b"fill: cannot read standard input"),
-        Program::Operate => os::fail(b"operate: cannot read standard input"),
+impl fmt::Display for Reason<'_> {
+    fn fmt<W: fmt::Write>(&self, f: &mut fmt::Formatter<W>) -> fmt::Result {
+        let mut space = [0u8; 256];
+        let mut room: &mut [u8] = &mut space;
+        let _ = write!(room, "{}", self.0);
+        let left = room.len();
+        let text = str::from_utf8(&space[..space.len().saturating_sub(left)]).unwrap_or("");
+        f.write_str(
+            text.split_once(" (os error ")
+                .map_or(text, |(words, _)| words),
+        )
     }
 }
 
-fn cannot_write(p: Program) {
-    match p {
-        Program::Fill => os::fail(b"fill: cannot write standard output"),
-        Program::Operate => os::fail(b"operate: cannot write standard output"),
+// Whether a call that failed is to be tried again.
+fn is_passing(error: &io::Error) -> bool {
+    match error.kind() {
+        ErrorKind::Interrupted => true,
+        ErrorKind::WouldBlock => {
+            thread::yield_now();
+            true
+        }
+        _ => false,
     }
 }
 
-fn takes_nothing(p: Program) {
-    match p {
-        Program::Fill => tell(b"fill: standard output takes nothing\n"),
-        Program::Operate => tell(b"operate: standard output takes nothing\n"),
-    }
+// A call that was tried as often as can be counted.
+fn gave_up() -> io::Error {
+    io::Error::from(ErrorKind::TimedOut)
 }
 
-fn tell(message: &[u8]) {
-    io::write_all(STDERR_FILENO, message);
-}
-
-// One read of what is there.
-pub fn read_some(p: Program, buffer: &mut [u8]) -> Got
-    ensures { result.count ≤ length buffer.new }
+// One read of what is there; it brings no byte at the end of the input.
+pub fn read_some<R: Read>(stdin: &mut R, buffer: &mut [u8]) -> Result<usize, Failure>
+    ensures within { IfOk result (λ n. n ≤ length buffer.new) }
+    ensures bytes { IfOk result (λ n. Consumes (R.remaining stdin.old) (R.remaining stdin.new) (take n buffer.new)) }
+    ensures end { IfOk result (λ n. n ≡ 0 → 0 < length buffer.new → IsAtEnd (R.remaining stdin.new)) }
+    ensures err { OnErr result (Keeps (R.remaining stdin.old) (R.remaining stdin.new)) }
 {
-    let mut turns = u64::MAX;
-    while turns > 0 {
-        let got = libc::read(STDIN_FILENO, buffer);
-        if got >= 0 {
-            return Got {
-                count: io::count(got, buffer),
-                failed: false,
-            };
+    for _ in 0..u64::MAX {
+        match stdin.read(buffer) {
+            Ok(n) => return Ok(n),
+            Err(e) => {
+                if !is_passing(&e) {
+                    return Err(Failure::Read(e));
+                }
+            }
         }
-        if !again() {
-            cannot_read(p);
-            return Got {
-                count: 0,
-                failed: true,
-            };
-        }
-        turns -= 1;
     }
-    Got {
-        count: 0,
-        failed: true,
-    }
+    Err(Failure::Read(gave_up()))
 }
 
-// One write; how many of the bytes it took, or 0 where it failed.
-fn write_some(p: Program, bytes: &[u8]) -> usize
-    ensures { result ≤ length bytes.now }
+// One write; how many of the bytes it took.
+fn write_some<W: Write>(stdout: &mut W, bytes: &[u8]) -> Result<usize, Failure>
+    ensures within { IfOk result (λ n. n ≤ length bytes.now) }
+    ensures bytes { IfOk result (λ n. Appends (W.contents stdout.old) (W.contents stdout.new) (take n bytes.now)) }
+    ensures err { OnErr result (Keeps (W.contents stdout.old) (W.contents stdout.new)) }
 {
-    let mut turns = u64::MAX;
-    while turns > 0 {
-        let put = libc::write(STDOUT_FILENO, bytes);
-        if put > 0 {
-            return io::count(put, bytes);
+    for _ in 0..u64::MAX {
+        match stdout.write(bytes) {
+            Ok(n) => return Ok(n),
+            Err(e) => {
+                if !is_passing(&e) {
+                    return Err(Failure::Write(e));
+                }
+            }
         }
-        if put == 0 {
-            takes_nothing(p);
-            return 0;
-        }
-        if !again() {
-            cannot_write(p);
-            return 0;
-        }
-        turns -= 1;
     }
-    0
+    Err(Failure::Write(gave_up()))
 }
 
-// Writes all of the bytes, and answers whether it could.
-pub fn print(p: Program, bytes: &[u8]) -> bool {
+// Writes all of the bytes. An error leaves the first n of them written.
+pub fn print<W: Write>(stdout: &mut W, bytes: &[u8]) -> Result<(), Failure>
+    ensures ok { OnOk result (Appends (W.contents stdout.old) (W.contents stdout.new) bytes.now) }
+    ensures err { OnErr result ((n : ℕ) × Appends (W.contents stdout.old) (W.contents stdout.new) (take n bytes.now)) }
+{
     let mut at: usize = 0;
     while at < bytes.len() {
-        let n = write_some(p, &bytes[at..]);
+        let n = write_some(stdout, &bytes[at..])?;
         if n == 0 {
-            return false;
+            return Err(Failure::TakesNothing);
         }
         at += n;
     }
-    true
+    Ok(())
 }

@@ -1,5 +1,7 @@
 // The calls for C: those of the storage daemon, and those for site staff, who keep a map and its table. Placing: "the map's frames, to which
 // load's questions are put first, the group, and space where each place becomes two bytes, high byte first".
+#![tactic(auto)]
+
 ghost use Rattle.std.specs.Prelude.{◌≡◌, ◌*◌, ◌<◌, ◌≤◌, length};
 ghost use Rattle.definitions.specs.Lists.{over};
 ghost use Rattle.definitions.specs.Frames.{frames_in};
@@ -29,7 +31,7 @@ use text::Shape;
 
 // The number of the first question answered no, or 0, the day's group, how many places were written, and the tries.
 #[repr(C)]
-#[derive(Drop)]
+#[derive(Clone, Copy)]
 pub struct Drives {
     pub number: u32,
     pub group: u32,
@@ -84,8 +86,7 @@ fn listed(map: &[u8], group: u32, out: &mut [u8]) -> Placing
     }
 }
 
-#[unsafe(no_mangle)]
-pub extern "C" fn crush_place(map: &[u8], group: u32, out: &mut [u8]) -> Placing
+pub fn crush_place(map: &[u8], group: u32, out: &mut [u8]) -> Placing
     ensures { daemon_answer result out.new ≡ daemon_of map.now group out.old }
 {
     let number = door::load(map);
@@ -111,8 +112,7 @@ fn refused(number: u32) -> Drives
 }
 
 // The drives of a show's day, in one call: the group and its list.
-#[unsafe(no_mangle)]
-pub extern "C" fn crush_day_drives(map: &[u8], show: u32, day: u32, out: &mut [u8]) -> Drives
+pub fn crush_day_drives(map: &[u8], show: u32, day: u32, out: &mut [u8]) -> Drives
     ensures { drives_answer result out.new ≡ drives_of map.now show day out.old }
 {
     let number = door::load(map);
@@ -133,37 +133,28 @@ pub extern "C" fn crush_day_drives(map: &[u8], show: u32, day: u32, out: &mut [u
 }
 
 // Whether a map loads, and how large its table is.
-#[unsafe(no_mangle)]
-pub extern "C" fn crush_sizes_of(map: &[u8]) -> Sizes
+pub fn crush_sizes_of(map: &[u8]) -> Sizes
     ensures { sizes_answer result ≡ sizes_of map.now }
 {
     load::sizes_of(map)
 }
 
 // The same, and where the map loads no state is stored any more.
-#[unsafe(no_mangle)]
-pub extern "C" fn crush_load(map: &[u8], states: &mut [u32; 24586]) -> Sizes
+pub fn crush_load(map: &[u8], states: &mut [u32; 24586]) -> Sizes
     ensures { load_answer result states.new ≡ load_of map.now states.old }
 {
     load::load(map, states)
 }
 
 // The table of a map.
-#[unsafe(no_mangle)]
-pub extern "C" fn crush_fill(map: &[u8], table: &mut [u16]) -> Filled
+pub fn crush_fill(map: &[u8], table: &mut [u16]) -> Filled
     ensures { fill_answer result table.new ≡ fill_of map.now table.old }
 {
     fill::fill(map, table)
 }
 
 // An edit of a drive, into the map, the table and the space lent for its moves.
-#[unsafe(no_mangle)]
-pub extern "C" fn crush_edit(
-    map: &mut [u8],
-    table: &mut [u16],
-    frame: &[u8],
-    space: &mut [u8],
-) -> Edited
+pub fn crush_edit(map: &mut [u8], table: &mut [u16], frame: &[u8], space: &mut [u8]) -> Edited
     ensures { edit_answer result map.new table.new space.new
         ≡ edit_of map.old table.old frame.now space.old }
 {
@@ -171,16 +162,14 @@ pub extern "C" fn crush_edit(
 }
 
 // The map's drives stored under a name.
-#[unsafe(no_mangle)]
-pub extern "C" fn crush_store(map: &[u8], states: &mut [u32; 24586], name: u16) -> u32
+pub fn crush_store(map: &[u8], states: &mut [u32; 24586], name: u16) -> u32
     ensures { store_answer result states.new ≡ store_of map.now states.old name }
 {
     store::store(map, states, name)
 }
 
 // A return to the state of a name, into the map, the table and the space lent for its moves.
-#[unsafe(no_mangle)]
-pub extern "C" fn crush_return(
+pub fn crush_return(
     map: &mut [u8],
     table: &mut [u16],
     states: &[u32; 24586],
@@ -194,32 +183,28 @@ pub extern "C" fn crush_return(
 }
 
 // A map's frames into the lent space.
-#[unsafe(no_mangle)]
-pub extern "C" fn crush_write(map: &[u8], space: &mut [u8]) -> Written
+pub fn crush_write(map: &[u8], space: &mut [u8]) -> Written
     ensures { write_answer result space.new ≡ write_of map.now space.old }
 {
     write::write(map, space)
 }
 
 // The group of a show's day.
-#[unsafe(no_mangle)]
-pub extern "C" fn crush_day_group(map: &[u8], show: u32, day: u32) -> Day
+pub fn crush_day_group(map: &[u8], show: u32, day: u32) -> Day
     ensures { day_answer result ≡ day_of map.now show day }
 {
     day::day_group(map, show, day)
 }
 
 // What an edit of a drive's acceptance moves at most.
-#[unsafe(no_mangle)]
-pub extern "C" fn crush_ceiling(map: &[u8], table: &[u16], device: u32) -> Limit
+pub fn crush_ceiling(map: &[u8], table: &[u16], device: u32) -> Limit
     ensures { ceiling_answer result ≡ ceiling_of map.now table.now device }
 {
     limit::ceiling(map, table, device)
 }
 
 // The version of these calls.
-#[unsafe(no_mangle)]
-pub extern "C" fn crush_version() -> u32
+pub fn crush_version() -> u32
     ensures { result ≡ version }
 {
     10800

@@ -1,9 +1,10 @@
 // The structs and enums that the definitions share with code and contracts. No function is here.
+#![tactic(auto)]
 
 // ---- the map's frames
 
 // Frame 01.
-#[derive(Drop)]
+#[derive(Clone, Copy)]
 pub struct Device {
     pub number: u32,
     pub weight: u32,
@@ -11,7 +12,7 @@ pub struct Device {
 }
 
 // Frame 02: a bucket's number, its type, its kind (1 straw, 2 tree) and the weight written there.
-#[derive(Drop)]
+#[derive(Clone, Copy)]
 pub struct Bucket {
     pub number: u32,
     pub ty: u32,
@@ -20,21 +21,21 @@ pub struct Bucket {
 }
 
 // The kinds of bucket.
-#[derive(Drop)]
+#[derive(Clone, Copy)]
 pub enum Kind {
     Straw,
     Tree,
 }
 
 // Frame 03: a bucket and one of its children, by item number.
-#[derive(Drop)]
+#[derive(Clone, Copy)]
 pub struct Link {
     pub bucket: u32,
     pub child: u32,
 }
 
 // Frame 04: a step of the rule, with its count, type and bucket.
-#[derive(Drop)]
+#[derive(Clone, Copy)]
 pub struct Step {
     pub step: u32,
     pub count: u32,
@@ -43,7 +44,7 @@ pub struct Step {
 }
 
 // The three ways to select. Through: independent, and a device beneath each item is put out.
-#[derive(Drop)]
+#[derive(Clone, Copy)]
 pub enum Mode {
     FirstN,
     Independent,
@@ -51,7 +52,7 @@ pub enum Mode {
 }
 
 // What a step of the rule does: take a bucket; select a count of items of a type; emit. Idle is what no loaded map has.
-#[derive(Drop)]
+#[derive(Clone, Copy)]
 pub enum Action {
     Take(u32),
     Select(Mode, u32, u32),
@@ -62,7 +63,7 @@ pub enum Action {
 // ---- hash
 
 // The three numbers that `mix` changes.
-#[derive(Drop)]
+#[derive(Clone, Copy)]
 pub struct Mix {
     pub a: u32,
     pub b: u32,
@@ -70,27 +71,27 @@ pub struct Mix {
 }
 
 // A shift, left (true) or right (false), and by how many places.
-#[derive(Drop)]
+#[derive(Clone, Copy)]
 pub struct Row(pub bool, pub u32);
 
 // ---- the straw draw
 
 // m, at 31 binary places, and the digits found so far.
-#[derive(Drop)]
+#[derive(Clone, Copy)]
 pub struct Digits {
     pub m: u64,
     pub d: u64,
 }
 
 // The best child so far, by item number and key.
-#[derive(Drop)]
+#[derive(Clone, Copy)]
 pub enum Best {
     Nobody,
     Leads(u32, u64),
 }
 
 // "A draw ends in its winner or none": the winner's item number.
-#[derive(Drop)]
+#[derive(Clone, Copy)]
 pub enum Drawn {
     Winner(u32),
     Nothing,
@@ -99,7 +100,7 @@ pub enum Drawn {
 // ---- walk, select and rule
 
 // "A test ends held, not accepted or passed."
-#[derive(Drop)]
+#[derive(Clone, Copy)]
 pub enum Verdict {
     Held,
     Rejected,
@@ -107,21 +108,21 @@ pub enum Verdict {
 }
 
 // A draw (at a bucket, with a try number r') with its end, or a test (of an item) with its end.
-#[derive(Drop)]
+#[derive(Clone, Copy)]
 pub enum Event {
     Drew(u32, u32, Drawn),
     Tested(u32, Verdict),
 }
 
 // Where a descent comes to: the bucket of its last draw, and that draw's end.
-#[derive(Drop)]
+#[derive(Clone, Copy)]
 pub struct Landed {
     pub bucket: u32,
     pub drawn: Drawn,
 }
 
 // A rank between two turns: the bucket of the next draw, f_r, f, and the tries made in inner walks so far.
-#[derive(Drop)]
+#[derive(Clone, Copy)]
 pub struct State {
     pub at: u32,
     pub fr: u32,
@@ -130,7 +131,7 @@ pub struct State {
 }
 
 // What the test of an item comes to: its end, the entry that a pass puts out, and the tries made within it.
-#[derive(Drop)]
+#[derive(Clone, Copy)]
 pub struct Tried {
     pub verdict: Verdict,
     pub entry: u32,
@@ -139,14 +140,14 @@ pub struct Tried {
 
 // What a turn of a rank leads to: the place is filled (the item held, the entry put out, the tries made within its test), or the rank goes
 // on after one more failure.
-#[derive(Drop)]
+#[derive(Clone, Copy)]
 pub enum Turn {
     Fill(u32, u32, u32),
     Fail(State),
 }
 
 // What a rank ends in: the item that it holds and its entry (65535 for none), f_r, f, and the tries made in inner walks.
-#[derive(Drop)]
+#[derive(Clone, Copy)]
 pub struct Ranked {
     pub item: u32,
     pub entry: u32,
@@ -158,7 +159,7 @@ pub struct Ranked {
 // ---- table, edits, moves
 
 // An edit: a device's acceptance or weight and its new value. Malformed is a frame of no edit form.
-#[derive(Drop)]
+#[derive(Clone, Copy)]
 pub enum Change {
     Acceptance(u32, u32),
     Weight(u32, u32),
@@ -166,7 +167,7 @@ pub enum Change {
 }
 
 // Where the old and the new walk of a place first part, by the ends of a draw or of a test.
-#[derive(Drop)]
+#[derive(Clone, Copy)]
 pub enum Parting {
     Same,
     Draw(Drawn, Drawn),
@@ -174,7 +175,7 @@ pub enum Parting {
 }
 
 // A move: group, place (from 1), old and new entry, cause.
-#[derive(Drop)]
+#[derive(Clone, Copy)]
 pub struct Move {
     pub group: u32,
     pub place: u32,
@@ -186,7 +187,7 @@ pub struct Move {
 // ---- questions at the door
 
 // Where a rule stands between two steps: outside any block; in a block, at the type reached; or in no order of blocks.
-#[derive(Drop)]
+#[derive(Clone, Copy)]
 pub enum Standing {
     Outside,
     Inside(u32),

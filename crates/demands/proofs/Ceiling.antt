@@ -11,7 +11,8 @@ use Rattle.definitions.specs.Edit.{change_of, put, moves_of}
 use Rattle.definitions.specs.Calls.{independent, ceiling_of}
 use Rattle.history.specs.Step.{Standing}
 use Rattle.history.specs.Ceiling.{Within, lowering, raising}
-use Rattle.history.specs.Calls.{Site, map_at, stands-all}
+use Rattle.history.specs.Calls.{Site, map_at}
+use Rattle.history.proofs.Calls.{stands-all}
 use Rattle.demands.proofs.Contracts.{LoadCall, FillCall, EditCall, edit_frames, edit_table, edit_frame, edit_space, edit_answered, AnyCall, CeilingCall, ceiling_frames, ceiling_table, ceiling_device, ceiling_answered}
 use Rattle.demands.proofs.Demand3.{Start, CallRun, start-stands, edit-answers, runs}
 

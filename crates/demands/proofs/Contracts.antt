@@ -272,7 +272,7 @@ load-call-of κs a =
       κs = κs;
       args = a;
       result = record { number = o.number; groups = o.groups; places = o.places };
-      exit = (a.0, (record { ref_ptr = a.1.0.ptr; ghost_name = a.1.0.name; now = o.states }, tt));
+      exit = (a.0, (record { ref_ptr = a.1.0.ref_ptr; ghost_name = a.1.0.ghost_name; now = o.states }, tt));
       asked = tt;
       holds = refl;
     }
@@ -284,7 +284,7 @@ fill-call-of κs a =
       κs = κs;
       args = a;
       result = record { number = o.number; places = o.places };
-      exit = (a.0, (record { ref_ptr = a.1.0.ptr; ghost_name = a.1.0.name; now = o.table }, tt));
+      exit = (a.0, (record { ref_ptr = a.1.0.ref_ptr; ghost_name = a.1.0.ghost_name; now = o.table }, tt));
       asked = tt;
       holds = refl;
     }
@@ -297,10 +297,10 @@ edit-call-of κs a =
       args = a;
       result = record { number = o.number; moves = o.moves };
       exit = (
-        record { ref_ptr = a.0.ptr; ghost_name = a.0.name; now = o.frames },
+        record { ref_ptr = a.0.ref_ptr; ghost_name = a.0.ghost_name; now = o.frames },
         (
-          record { ref_ptr = a.1.0.ptr; ghost_name = a.1.0.name; now = o.table },
-          (a.1.1.0, (record { ref_ptr = a.1.1.1.0.ptr; ghost_name = a.1.1.1.0.name; now = o.space }, tt)),
+          record { ref_ptr = a.1.0.ref_ptr; ghost_name = a.1.0.ghost_name; now = o.table },
+          (a.1.1.0, (record { ref_ptr = a.1.1.1.0.ref_ptr; ghost_name = a.1.1.1.0.ghost_name; now = o.space }, tt)),
         ),
       );
       asked = tt;
@@ -315,7 +315,7 @@ store-call-of κs a g =
       args = a;
       good = g;
       result = o.number;
-      exit = (a.0, (record { ref_ptr = a.1.0.ptr; ghost_name = a.1.0.name; now = o.states }, (a.1.1.0, tt)));
+      exit = (a.0, (record { ref_ptr = a.1.0.ref_ptr; ghost_name = a.1.0.ghost_name; now = o.states }, (a.1.1.0, tt)));
       asked = tt;
       holds = refl;
     }
@@ -328,12 +328,12 @@ return-call-of κs a =
       args = a;
       result = record { number = o.number; moves = o.moves };
       exit = (
-        record { ref_ptr = a.0.ptr; ghost_name = a.0.name; now = o.frames },
+        record { ref_ptr = a.0.ref_ptr; ghost_name = a.0.ghost_name; now = o.frames },
         (
-          record { ref_ptr = a.1.0.ptr; ghost_name = a.1.0.name; now = o.table },
+          record { ref_ptr = a.1.0.ref_ptr; ghost_name = a.1.0.ghost_name; now = o.table },
           (
             a.1.1.0,
-            (a.1.1.1.0, (record { ref_ptr = a.1.1.1.1.0.ptr; ghost_name = a.1.1.1.1.0.name; now = o.space }, tt)),
+            (a.1.1.1.0, (record { ref_ptr = a.1.1.1.1.0.ref_ptr; ghost_name = a.1.1.1.1.0.ghost_name; now = o.space }, tt)),
           ),
         ),
       );
@@ -360,7 +360,7 @@ write-call-of κs a =
       κs = κs;
       args = a;
       result = record { number = o.number; bytes = o.bytes };
-      exit = (a.0, (record { ref_ptr = a.1.0.ptr; ghost_name = a.1.0.name; now = o.space }, tt));
+      exit = (a.0, (record { ref_ptr = a.1.0.ref_ptr; ghost_name = a.1.0.ghost_name; now = o.space }, tt));
       asked = tt;
       holds = refl;
     }

@@ -4,22 +4,22 @@
 use mathlib.Core.Path.{◌≡◌, refl, sym, ap, subst, ◌∙◌}
 use mathlib.Core.Bool.{true, false}
 use mathlib.Core.List.{List, [], ◌∷◌, ◌++◌, map}
-use Prim.Native.Nat.{ℕ, zero, suc, ◌*◌, ◌≤◌}
+use Prim.Native.Nat.{ℕ, zero, suc, ◌≤◌}
 use native.Mathlib.Omega.{arith}
 use lib.ListN.{length, drop, length-append, length-drop}
 use Rattle.definitions.specs.Lists.{some_of, over}
 use Rattle.definitions.specs.Map.{Map, map_of}
-use Rattle.definitions.specs.Rule.{width_of}
 use Rattle.definitions.specs.Table.{table_of}
 use Rattle.definitions.specs.Writing.{map_text}
 use Rattle.definitions.specs.Load.{load_number}
 use Rattle.definitions.specs.States.{words_of, states_of}
-use Rattle.definitions.specs.Calls.{independent, LoadAnswer, load_by, load_of, fill_of, EditAnswer, edit_of, StoreAnswer, store_of, return_of}
+use Rattle.definitions.specs.Calls.{independent, LoadAnswer, load_by, load_of, fill_of, edit_of, store_of, return_of}
 use Rattle.keeping.specs.States.{emptied, emptied-stated, Stated}
-use Rattle.history.specs.Step.{Standing}
-use Rattle.history.specs.Back.{same-frames-again, same-table-again}
-use Rattle.history.specs.Calls.{Call, stores as is_stored, Site, map_at, states_at, left, Comes, Run, none, then, put_all, Stands, Kept, kept}
-use Rattle.history.specs.FirstN.{Fixed, Unaltered, unaltered}
+use Rattle.history.proofs.Back.{same-frames-again, same-table-again}
+use Rattle.history.specs.Calls.{Call, stores as is_stored, Site, map_at, states_at, left, Comes, Run, none, then, put_all, Stands, Kept}
+use Rattle.history.proofs.Calls.{kept}
+use Rattle.history.specs.FirstN.{Unaltered}
+use Rattle.history.proofs.FirstN.{unaltered}
 use Rattle.engine.specs.Calls.{Filling, filling}
 use Rattle.demands.proofs.Contracts.{LoadCall, load_frames, load_states, load_answered, load-answers, FillCall, fill_frames, fill_table, fill_answered, EditCall, edit_frames, edit_table, edit_frame, edit_space, edit_answered, StoreCall, store_frames, store_states, store_name, name-most, store_answered, ReturnCall, return_frames, return_table, return_states, return_name, return_space, return_answered, AnyCall, edits, stores, returns, call_of, WriteCall, write_frames, write_space, write_answered}
 use Rattle.demands.proofs.RoundTrip.{written_bytes, roomy, write-load}

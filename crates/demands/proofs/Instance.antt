@@ -3,7 +3,7 @@ use mathlib.Core.Path.{◌≡◌, refl, sym, ap, subst, ◌∙◌}
 use mathlib.Core.List.{List, [], ◌∷◌}
 use Prim.Native.Nat.{ℕ}
 use contract.Lifetimes.{Lfts}
-use denote.Ref.{Bor}
+use denote.Ref.{Bor, MutBor}
 use lib.ListN.{replicate}
 use Rattle.definitions.specs.declared.Move.{Move}
 use Rattle.definitions.specs.Lists.{over}
@@ -45,17 +45,21 @@ pub record Lending : Type 0 where
 
 module _ (k : Lending) where
   abbrev lent : ℕ → List ℕ → Bor (List ℕ)
-  lent i bytes = record { ref_ptr = k.at i; ghost_name = k.name i; now = bytes }
+  lent i bytes = record { ref_ptr = k.at i; now = bytes }
+
+  -- the same, to be written: only then has it a name
+  abbrev lent_mut : ℕ → List ℕ → MutBor (List ℕ)
+  lent_mut i bytes = record { ref_ptr = k.at i; ghost_name = k.name i; now = bytes }
 
   -- the calls that are lent these
   abbrev pub load_call : List ℕ → LoadCall
-  load_call frames = load-call-of k.load (lent 0 frames, (lent 4 lent_states, tt))
+  load_call frames = load-call-of k.load (lent 0 frames, (lent_mut 4 lent_states, tt))
 
   abbrev pub fill_call : List ℕ → List ℕ → FillCall
-  fill_call frames rest = fill-call-of k.fill (lent 0 frames, (lent 1 rest, tt))
+  fill_call frames rest = fill-call-of k.fill (lent 0 frames, (lent_mut 1 rest, tt))
 
   abbrev pub edit_call : List ℕ → List ℕ → List ℕ → List ℕ → EditCall
-  edit_call frames table edit space = edit-call-of k.edit (lent 0 frames, (lent 1 table, (lent 2 edit, (lent 3 space, tt))))
+  edit_call frames table edit space = edit-call-of k.edit (lent_mut 0 frames, (lent_mut 1 table, (lent 2 edit, (lent_mut 3 space, tt))))
 
   abbrev pub ceiling_call : List ℕ → List ℕ → ℕ → CeilingCall
   ceiling_call frames table d = ceiling-call-of k.ceiling (lent 0 frames, (lent 1 table, (d, tt)))

@@ -1,4 +1,6 @@
 // Document 01, "Walk, select and rule": the draw at a bucket of either kind, and the descent from a bucket to an item of the wanted type.
+#![tactic(auto)]
+
 ghost use Rattle.std.specs.Prelude.{◌≡◌, true, ◌+◌, ◌<◌, ◌≤◌, length, take, drop};
 ghost use Rattle.definitions.specs.Straw.{draw_of};
 ghost use Rattle.definitions.specs.Tree.{tree_of};

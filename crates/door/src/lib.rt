@@ -1,5 +1,7 @@
 // Document 01, "Questions at the door": load; and of document 02 question 22, "asked directly after question 9", 21, "asked right after
 // question 11", and 23, "asked after question 12".
+#![tactic(auto)]
+
 ghost use Rattle.std.specs.Prelude.{◌≡◌, true, ◌-◌, length};
 ghost use Rattle.definitions.specs.Lists.{first_no};
 ghost use Rattle.definitions.specs.Frames.{frames_in};

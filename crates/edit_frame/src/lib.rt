@@ -1,4 +1,6 @@
 // The edit frame: what it asks for, the device it names, and the change written into the text, with the weights of the buckets.
+#![tactic(auto)]
+
 ghost use Rattle.std.specs.Prelude.{◌≡◌, ◌+◌, ◌<◌, ◌≤◌, length, get_or};
 ghost use Rattle.definitions.specs.Frames.{hex, frames_in};
 ghost use Rattle.definitions.specs.Map.{map_of};
@@ -16,7 +18,7 @@ use frames::{digits, lines, records};
 use text::Shape;
 
 // Where a device stands among the devices.
-#[derive(Drop)]
+#[derive(Clone, Copy)]
 pub enum Found {
     At(usize),
     Missing,

@@ -1,4 +1,6 @@
 // The work of an edit between its questions: whether it fits, the arrays before it and after it, the survey of the table, and the value put into the text.
+#![tactic(auto)]
+
 ghost use Rattle.std.specs.Prelude.{◌≡◌, true, ◌*◌, ◌≤◌, length};
 ghost use Rattle.definitions.specs.Frames.{frames_in};
 ghost use Rattle.definitions.specs.Map.{Map, map_of};
@@ -28,7 +30,7 @@ use text::Shape;
 
 // A map in flat arrays before an edit and after it: the plan and the rule are the same. The loads are the weights of the buckets after it, by
 // number.
-#[derive(Drop)]
+#[derive(Clone, Copy)]
 pub struct Pair {
     pub plan: [u32; 2305],
     pub old: [u32; 2560],

@@ -5,7 +5,7 @@ ghost use Rattle.engine.specs.Answers.{day_answer};
 
 // 14 or 0, and the group.
 #[repr(C)]
-#[derive(Drop)]
+#[derive(Clone, Copy)]
 pub struct Day {
     pub number: u32,
     pub group: u32,

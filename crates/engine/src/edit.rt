@@ -20,7 +20,7 @@ use text::Shape;
 
 // The number of the first question answered no, or 0, and how many places moved.
 #[repr(C)]
-#[derive(Drop)]
+#[derive(Clone, Copy)]
 pub struct Edited {
     pub number: u32,
     pub moves: u32,

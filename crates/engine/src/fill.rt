@@ -9,7 +9,7 @@ use frames::{records, shape};
 
 // The number of the first question answered no, or 0, and how many places were written.
 #[repr(C)]
-#[derive(Drop)]
+#[derive(Clone, Copy)]
 pub struct Filled {
     pub number: u32,
     pub places: usize,

@@ -1,5 +1,7 @@
 // The engine's callable functions. None has a `requires`: what is lent is asked about first, and a refusal returns its number, counts of
 // zero, and alters nothing.
+#![tactic(auto)]
+
 pub mod back;
 pub mod day;
 pub mod edit;

@@ -18,7 +18,7 @@ use text::Shape;
 // The number of the first question answered no, or 0, how many groups have the device in their list, and how many places an edit of its
 // acceptance moves at most.
 #[repr(C)]
-#[derive(Drop)]
+#[derive(Clone, Copy)]
 pub struct Limit {
     pub number: u32,
     pub groups: u32,

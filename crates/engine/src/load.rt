@@ -10,7 +10,7 @@ use frames::{records, shape};
 
 // The number of the first question answered no, or 0, and the map's groups and its width, or zeros.
 #[repr(C)]
-#[derive(Drop)]
+#[derive(Clone, Copy)]
 pub struct Sizes {
     pub number: u32,
     pub groups: u32,

@@ -9,7 +9,7 @@ use loaded::row;
 
 // The number of the first question answered no, or 0, how many places were written, and the tries.
 #[repr(C)]
-#[derive(Drop)]
+#[derive(Clone, Copy)]
 pub struct Placing {
     pub number: u32,
     pub places: u32,

@@ -7,7 +7,7 @@ use frames::writing;
 
 // The number of the first question answered no, or 0, and how many bytes were written.
 #[repr(C)]
-#[derive(Drop)]
+#[derive(Clone, Copy)]
 pub struct Written {
     pub number: u32,
     pub bytes: usize,

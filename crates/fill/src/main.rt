@@ -1,5 +1,7 @@
 // Program `fill` of document 01, "Samples": reads a map and then edits from standard input; prints the row of each group, then each edit's moves or
 // its refusal.
+#![tactic(auto)]
+
 ghost use Rattle.std.specs.Prelude.{◌≡◌, length};
 
 use protocol::asked::Program;
@@ -11,7 +13,7 @@ fn table_space() -> [u16; 32768]
     [0; 32768]
 }
 
-fn main() {
+fn main(rt: HostRuntime) {
     let mut table = table_space();
-    console::run(Program::Fill, &mut table);
+    console::run(Program::Fill, &rt, &mut table);
 }

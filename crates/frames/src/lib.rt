@@ -1,4 +1,6 @@
 // Reading the map's text, asking it the first four questions, and writing an edit into it.
+#![tactic(auto)]
+
 pub mod digits;
 pub mod lines;
 pub mod records;

@@ -41,6 +41,7 @@ pub fn all_allowed(t: &[u8]) -> bool
 }
 
 // Question 1: "1 to 65,536 bytes, last byte 10, all others digits or 10?"
+#[tactic(auto, using(std::proofs::lemmas::Bool::Decides::nat_tests), unfolding(definitions::specs::Load::sized))]
 pub fn sized(t: &[u8]) -> bool
     ensures { result ≡ sized t.now }
 {

@@ -11,7 +11,7 @@ use crate::{digits, lines};
 use text::Shape;
 
 // A line's kind, and where the line behind it starts.
-#[derive(Drop)]
+#[derive(Clone, Copy)]
 pub struct Line {
     pub kind: usize,
     pub next: usize,
@@ -54,7 +54,7 @@ pub fn count(s: Shape, k: usize) -> Shape
 }
 
 // How many lines there are of each kind, and whether no kind is below the one before it.
-#[derive(Drop)]
+#[derive(Clone, Copy)]
 pub struct Outline {
     pub shape: Shape,
     pub sorted: bool,

@@ -1,4 +1,6 @@
 // A map as placing reads it: two flat lists, made once per call. No function is here.
+#![tactic(auto)]
+
 use definitions::Step;
 
 // The plan, which no edit changes: of each bucket, by its number, where its children begin among the children of all, how many they are,
@@ -29,13 +31,13 @@ pub const LIVE: usize = 2304;
 pub const TREE: u32 = 2;
 
 // The rule: the first `len` steps.
-#[derive(Drop)]
+#[derive(Clone, Copy)]
 pub struct Rule {
     pub steps: [Step; 16],
     pub len: usize,
 }
 
-#[derive(Drop)]
+#[derive(Clone, Copy)]
 pub struct Hierarchy {
     pub plan: Plan,
     pub values: Values,

@@ -18,7 +18,7 @@ use Rattle.definitions.specs.Load.{has_device}
 use Rattle.definitions.specs.Calls.{fits, EditAnswer, edit_of, CeilingAnswer, ceiling_number, ceiling_by, ceiling_of}
 use Rattle.laws.specs.Lists.{both}
 use Rattle.laws.specs.Loadable.{put-groups, put-has-device}
-use Rattle.tracing.specs.Moves.{moves-traced}
+use Rattle.tracing.proofs.Moves.{moves-traced}
 use Rattle.text.specs.Agreement.{loaded-map}
 use Rattle.ceiling.specs.Ceiling.{lowered, raised, lowered-most, raised-most}
 use Rattle.ceiling.specs.Rows.{row_at, rows_holding, front-row, front-holders}

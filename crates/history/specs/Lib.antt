@@ -4,4 +4,3 @@ pub mod Returns
 pub mod Calls
 pub mod FirstN
 pub mod Ceiling
-pub mod Back

@@ -11,7 +11,7 @@ use Rattle.definitions.specs.States.{words_of}
 use Rattle.definitions.specs.Calls.{FillAnswer, EditAnswer, StoreAnswer, store_of, return_of}
 use Rattle.definitions.specs.Open.{computing}
 use Rattle.samples.specs.Samples.{M, line}
-use denote.Ref.{Bor}
+use denote.Ref.{Bor, MutBor}
 use Rattle.history.specs.Calls.{Site, Kept}
 use Rattle.demands.proofs.Contracts.{LoadCall, load-answers, load-call-of, EditCall, edits, StoreCall, store-call-of, stores, ReturnCall, return-call-of, returns, AnyCall, call_of}
 use Rattle.demands.proofs.Demand3.{Start, CallRun, empty, next, load-emptied, demand-3}
@@ -56,20 +56,23 @@ five = lit< tt
 
 module _ (k : Lending) where
   abbrev lent : ℕ → List ℕ → Bor (List ℕ)
-  lent i bytes = record { ref_ptr = k.at i; ghost_name = k.name i; now = bytes }
+  lent i bytes = record { ref_ptr = k.at i; now = bytes }
+
+  abbrev lent_mut : ℕ → List ℕ → MutBor (List ℕ)
+  lent_mut i bytes = record { ref_ptr = k.at i; ghost_name = k.name i; now = bytes }
 
   -- the calls of M: load, fill, store, edit, return
   abbrev loading : LoadCall
-  loading = load-call-of k.load (lent 0 M, (lent 4 words, tt))
+  loading = load-call-of k.load (lent 0 M, (lent_mut 4 words, tt))
 
   abbrev storing : StoreCall
-  storing = store-call-of k.load (lent 0 M, (lent 4 emptied, (5, tt))) (short, (refl, ((refl, five), tt)))
+  storing = store-call-of k.load (lent 0 M, (lent_mut 4 emptied, (5, tt))) (short, (refl, ((refl, five), tt)))
 
   abbrev editing : EditCall
   editing = edit_call k M M-table M-edit lent_space
 
   abbrev returning : ReturnCall
-  returning = return-call-of k.edit (lent 0 M', (lent 1 M'-table, (lent 4 kept5, (5, (lent 3 lent_space, tt)))))
+  returning = return-call-of k.edit (lent_mut 0 M', (lent_mut 1 M'-table, (lent 4 kept5, (5, (lent_mut 3 lent_space, tt)))))
 
   start : Start loading (fill_call k M lent_table) (with-states M M-table emptied) lent_table
   start =

@@ -63,6 +63,12 @@ pub M-edited : edit_of M M-table M-edit lent_space ≡ record { number = 0; move
 unfolding computing
 M-edited = refl
 
+-- but for its moves; so that what rests on the rest does not rest on them
+M-left : edit_of M M-table M-edit lent_space
+    ≡ record { number = 0; moves = 2; frames = M'; table = M'-table; space = (edit_of M M-table M-edit lent_space).space }
+unfolding computing
+M-left = refl
+
 -- M with a first-n select; its table is that of M
 abbrev pub F : List ℕ
 F =
@@ -101,10 +107,11 @@ module _ (k : Lending) where
 
   -- number 0, two moves, their bytes, and four holes
   pub M-answered : edit_answered M-call ≡ record { number = 0; moves = 2; frames = M'; table = M'-table; space = M-moves }
-  M-answered = M-edited
+  unfolding computing
+  M-answered = refl
 
   pub M-run : CallRun (site M M-table) (map edits (M-call ∷ [])) (site M' M'-table)
-  M-run = answers k M-edited empty
+  M-run = answers k M-left empty
 
   pub M-kept : Kept lent_table (site M M-table) (map call_of (map edits (M-call ∷ []))) (site M' M'-table)
   M-kept = demand-3 (load_call k M) (fill_call k M lent_table) (map edits (M-call ∷ [])) (site M M-table) lent_table (site M' M'-table) M-start M-independent M-run

@@ -1,8 +1,10 @@
 // Document 01, "The map's frames": the numbers of items. "A device's item number is its own number. A bucket's is 65,536 plus its number."
+#![tactic(auto)]
+
 ghost use Rattle.std.specs.Prelude.{◌≡◌, ◌<◌, ◌≤◌};
 ghost use Rattle.definitions.specs.Map.{bucket_item, is_bucket, bucket_number};
 
-#[derive(Drop)]
+#[derive(Clone, Copy)]
 pub struct Item {
     pub number: u32,
 }
@@ -20,14 +22,14 @@ impl Item {
     pub const END: u32 = Self::BUCKET_BASE + Self::BUCKETS;
 
     pub fn device(n: u32) -> Item
-        requires* { do ⌜ n < (← ⟦Item::DEVICES⟧) ⌝ }
+        requires { n < Self.DEVICES }
         ensures { result.number ≡ n }
     {
         Item { number: n }
     }
 
     pub fn bucket(n: u32) -> Item
-        requires* { do ⌜ n < (← ⟦Item::BUCKETS⟧) ⌝ }
+        requires { n < Self.BUCKETS }
         ensures { result.number ≡ bucket_item n }
     {
         Item {

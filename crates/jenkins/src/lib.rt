@@ -1,4 +1,6 @@
 // Document 01, "Hash": Jenkins' mix, and the hashes of two and of three numbers; change 4: of four.
+#![tactic(auto)]
+
 ghost use Rattle.std.specs.Prelude.{◌≡◌, ◌<◌, slice_index_or};
 ghost use Rattle.definitions.specs.Hash.{minus, shifted_by, right, rows, mix_step, mix, hash2, hash3, hash4};
 
@@ -87,7 +89,7 @@ pub fn hash2(seed: u32, p: u32, q: u32) -> u32
 }
 
 // Two hashes of three numbers that differ in the second.
-#[derive(Drop)]
+#[derive(Clone, Copy)]
 pub struct Two {
     pub one: u32,
     pub other: u32,

@@ -1,6 +1,6 @@
 -- Document 02, change 8: what holds of named states, of the words that they are lent in, and of the one that a return goes to. Assumes nothing.
 use Rattle.std.specs.Prelude.{◌≡◌, Bool, ◌&&◌, ◌||◌, ℕ, zero, suc, ◌+◌, ◌*◌, ◌<◌, ◌≤◌, leb, get_or, drop}
-use Rattle.std.proofs.Math.Path.{refl, sym, ap}
+use Rattle.std.proofs.Math.Path.{refl, sym, ap, subst}
 use Rattle.std.proofs.Common.{ap₂, ◌∙◌, arith, mul-le-mul_right, get_or-drop}
 use Rattle.std.proofs.Math.Bool.{true, false, cond}
 use Rattle.std.proofs.lemmas.Bool.{false≢true}
@@ -94,7 +94,9 @@ states-again n (s ∷ ss) ws o =
 pub written-states : (n : ℕ) (ss : List NamedState) (ws : List ℕ) → Sized n ss → states_of (over (words_of ss) ws) ≡ ss
 unfolding states_of words_of drives_each states_in
 written-states n [] ws o = refl
-written-states n (s ∷ ss) ws o = rw o.0 (states-again n (s ∷ ss) _ o)
+written-states n (s ∷ ss) ws o =
+    let rest = drop (length (words_of (s ∷ ss))) ws in
+    subst (λ (k : ℕ). states_in k (length (s ∷ ss)) (joined (map state_words (s ∷ ss)) ++ rest) ≡ s ∷ ss) (sym o.0) (states-again n (s ∷ ss) rest o)
 
 -- ---- a state stored
 

@@ -2,15 +2,13 @@
 use Rattle.std.specs.Prelude.{◌≡◌, refl, ℕ, ◌<◌, length, get_or}
 use Rattle.std.proofs.Math.Path.{subst}
 use mathlib.Core.List.{List, Memᴰ}
-use Rattle.std.proofs.Common.{arith}
+use Rattle.std.proofs.Common.{arith, sym, ◌∙◌}
 use Rattle.std.proofs.lemmas.List.{length-map}
 use Rattle.definitions.specs.declared.Drawn.{Drawn}
 use Rattle.definitions.specs.declared.Drawn.TheVariants.{Winner, Nothing}
 use Rattle.definitions.specs.declared.Kind.{Kind}
 use Rattle.definitions.specs.declared.Kind.TheVariants.{Straw, Tree}
 use Rattle.definitions.specs.Hash.{S}
-use Rattle.definitions.specs.Straw.{draw_of}
-use Rattle.definitions.specs.Tree.{tree_of}
 use Rattle.definitions.specs.Map.{Map, bucket_item}
 use Rattle.definitions.specs.View.{children_of, bucket_kind, weight_of, weights_of, view_of}
 use Rattle.definitions.specs.Walk.{draw_by, draw_at}
@@ -24,35 +22,56 @@ abbrev pub Tells : List ℕ → List ℕ → Drawn → Type 0
 Tells items weights (Winner i) = (n : ℕ) × (n < length items) × (get_or items n 0 ≡ i) × (0 < get_or weights n 0)
 Tells items weights Nothing = (n : ℕ) → n < length items → get_or weights n 0 ≡ 0
 
+-- either part, of a bucket of either kind, each child having its weight
+module _ (seed x r item : ℕ) (items weights : List ℕ) (paired : length weights ≡ length items) where
+  won : (kind : Kind) (i : ℕ) → draw_by kind seed x r item items weights ≡ Winner i
+      → (n : ℕ) × (n < length items) × (get_or items n 0 ≡ i) × (0 < get_or weights n 0)
+  unfolding draw_by
+  won Straw i e = winner-child seed x r items weights i e
+  won Tree i e = tree-child seed x r item weights items paired i e
+
+  no-one : (kind : Kind) → draw_by kind seed x r item items weights ≡ Nothing → (n : ℕ) → n < length items → get_or weights n 0 ≡ 0
+  unfolding draw_by
+  no-one Straw e = (none-exactly seed x r items weights).0 e
+  no-one Tree e = (tree-none seed x r item weights items paired).0 e
+
 -- "For both kinds together, show that": of a bucket of either kind, each child having its weight
 pub draw-tells : (kind : Kind) (seed x r item : ℕ) (items weights : List ℕ) → length weights ≡ length items
     → Tells items weights (draw_by kind seed x r item items weights)
-unfolding draw_by
-draw-tells Straw seed x r item items weights paired = go (draw_of seed x r items weights) refl
+draw-tells kind seed x r item items weights paired = go (draw_by kind seed x r item items weights) refl
   where
-    go : (d : Drawn) → draw_of seed x r items weights ≡ d → Tells items weights d
-    go (Winner i) e = winner-child seed x r items weights i e
-    go Nothing e = (none-exactly seed x r items weights).0 e
-draw-tells Tree seed x r item items weights paired = go (tree_of seed x r item weights items) refl
-  where
-    go : (d : Drawn) → tree_of seed x r item weights items ≡ d → Tells items weights d
-    go (Winner i) e = tree-child seed x r item weights items paired i e
-    go Nothing e = (tree-none seed x r item weights items paired).0 e
+    go : (d : Drawn) → draw_by kind seed x r item items weights ≡ d → Tells items weights d
+    go (Winner i) e = won seed x r item items weights paired kind i e
+    go Nothing e = no-one seed x r item items weights paired kind e
 
 -- of bucket b of a map
 module _ (m : Map) (x r b : ℕ) where
+  kind : Kind
+  kind = bucket_kind m b
+
+  paired : length (weights_of m b) ≡ length (children_of m b)
+  unfolding weights_of
+  paired = length-map (children_of m b) (weight_of m)
+
+  draw-is : draw_at (view_of m) x r b ≡ draw_by kind S x r (bucket_item b) (children_of m b) (weights_of m b)
+  unfolding draw_at view_of weights_of kind
+  draw-is = refl
+
   pub drawn-tells : Tells (children_of m b) (weights_of m b) (draw_at (view_of m) x r b)
-  unfolding draw_at view_of weights_of
-  drawn-tells = draw-tells (bucket_kind m b) S x r (bucket_item b) (children_of m b) (weights_of m b) (length-map (children_of m b) (weight_of m))
+  drawn-tells = go (draw_at (view_of m) x r b) refl
+    where
+      go : (d : Drawn) → draw_at (view_of m) x r b ≡ d → Tells (children_of m b) (weights_of m b) d
+      go (Winner i) e = won S x r (bucket_item b) (children_of m b) (weights_of m b) paired kind i (sym draw-is ∙ e)
+      go Nothing e = no-one S x r (bucket_item b) (children_of m b) (weights_of m b) paired kind (sym draw-is ∙ e)
 
   -- the winner is a child of it, of weight above 0
   pub drawn-child : (i : ℕ) → draw_at (view_of m) x r b ≡ Winner i → Memᴰ i (children_of m b) × (0 < weight_of m i)
   unfolding weights_of
   drawn-child i e =
-      let (n, h, q, p) = subst (Tells (children_of m b) (weights_of m b)) e drawn-tells in
+      let (n, h, q, p) = won S x r (bucket_item b) (children_of m b) (weights_of m b) paired kind i (sym draw-is ∙ e) in
       subst (λ (c : ℕ). Memᴰ c (children_of m b) × (0 < weight_of m c)) q
       (mem-at 0 (children_of m b) n h, omega (arith, p, get_d-mapped (weight_of m) (children_of m b) n 0 0 h))
 
   -- and none means that each child weighs 0
   pub drawn-none : draw_at (view_of m) x r b ≡ Nothing → (n : ℕ) → n < length (children_of m b) → get_or (weights_of m b) n 0 ≡ 0
-  drawn-none e = subst (Tells (children_of m b) (weights_of m b)) e drawn-tells
+  drawn-none e = no-one S x r (bucket_item b) (children_of m b) (weights_of m b) paired kind (sym draw-is ∙ e)

@@ -326,7 +326,7 @@ module _ (seed x r item : ℕ) (vs ws : List ℕ) (c : ℕ) where
         omega (arith, same-node j (2 * k) (λ e. f (omega arith)), same-node j (2 * k + 1) (λ e. f (omega arith)))
 
     -- one above c weighs d more
-    more-node : (j k : ℕ) → above c j ≡ k → node_weight ws j k ≡ node_weight vs j k + d
+    pub more-node : (j k : ℕ) → above c j ≡ k → node_weight ws j k ≡ node_weight vs j k + d
     unfolding node_weight above
     more-node zero k e = subst (λ (i : ℕ). get_or ws i 0 ≡ get_or vs i 0 + d) e more
     more-node (suc j) k e =
@@ -398,52 +398,3 @@ module _ (seed x r item : ℕ) (vs ws : List ℕ) (c : ℕ) where
             (λ q. inr (record { i = q.i; l = q.l; common = down e q.common; parts = q.parts; holds = q.holds; turns = q.turns }))
             rest
         go (no f) rest = let z = turn-law j k f in inr (record { i = j; l = k; common = here; parts = f; holds = z.0; turns = z.1 })
-
-    -- the draws are the same; or only the second finds a child, which is c; or both find one, and their paths fork
-    pub tree-law : (items : List ℕ) → length vs ≡ length items → length ws ≡ length items → c < length items
-        → (tree_of seed x r item vs items ≡ tree_of seed x r item ws items)
-        ⊎ (((tree_of seed x r item vs items ≡ Nothing) × (tree_of seed x r item ws items ≡ Winner (get_or items c 0)))
-        ⊎ ((tree_of seed x r item vs items ≡ Nothing → ⊥) × (tree_of seed x r item ws items ≡ Nothing → ⊥) × Fork (height_of (length items)) 0))
-    unfolding tree_of tree_by
-    tree-law items p q h = go (eqb (whole vs) 0) refl (eqb (whole ws) 0) refl
-      where
-        H : ℕ
-        H = height_of (length items)
-
-        whole : List ℕ → ℕ
-        whole us = node_weight us H 0
-
-        heavier : whole ws ≡ whole vs + d
-        heavier = more-node H 0 (above_root c (length items) h)
-
-        leaf : List ℕ → ℕ
-        leaf us = leaf_from seed x r item us H 0
-
-        -- where the first finds none, the second comes to c
-        at_c : whole vs ≡ 0 → (whole ws ≡ 0 → ⊥) → leaf ws ≡ c
-        at_c z n = by (ℕ_discrete (leaf ws) c)
-          where
-            up : 0 < get_or ws (leaf ws) 0
-            up = leaf-above seed x r item ws H 0 (omega arith)
-
-            within : leaf ws < length items
-            within = omega (arith, leaf-inside ws (leaf ws) up)
-
-            by : Dec (leaf ws ≡ c) → leaf ws ≡ c
-            by (yes e) = e
-            by (no f) =
-                absurd (omega (arith, up, only (leaf ws) f, leaf-le vs (leaf ws) H, ap (node_weight vs H) (above_root (leaf ws) (length items) within), z))
-
-        D : List ℕ → Bool → Drawn
-        D us b = tree_by seed x r item us items b
-
-        some : (us : List ℕ) → D us false ≡ Nothing → ⊥
-        some us e = let z : ◌≡◌ {A = ℕ} 0 1 = cc in omega arith
-
-        go : (a : Bool) → eqb (whole vs) 0 ≡ a → (b : Bool) → eqb (whole ws) 0 ≡ b
-            → (D vs a ≡ D ws b) ⊎ (((D vs a ≡ Nothing) × (D ws b ≡ Winner (get_or items c 0))) ⊎ ((D vs a ≡ Nothing → ⊥) × (D ws b ≡ Nothing → ⊥) × Fork H 0))
-        go true e true f = inl refl
-        go false e true f = absurd (eqb-false (whole vs) 0 e (omega (arith, heavier, eqb-true (whole ws) 0 f)))
-        go true e false f = inr (inl (refl, ap (λ (n : ℕ). Winner (get_or items n 0)) (at_c (eqb-true (whole vs) 0 e) (eqb-false (whole ws) 0 f))))
-        go false e false f =
-            ⊎_elim (λ k. inl (ap (λ (n : ℕ). Winner (get_or items n 0)) k)) (λ k. inr (inr (some vs, some ws, k))) (paths H 0)

@@ -1,1 +1,2 @@
 // No function is here: what follows from the definitions, each law once.
+#![tactic(auto)]

@@ -43,7 +43,7 @@ pub fn bucket_level(levels: &[u32], b: u32) -> u32
 }
 
 // Two tables with a slot for each item.
-#[derive(Drop)]
+#[derive(Clone, Copy)]
 pub struct Items {
     pub levels: [u32; 1280],
     pub weights: [u32; 1280],

@@ -12,7 +12,7 @@ use frames::records;
 use text::Shape;
 
 // What is asked of the number of a bucket's children: is it above 0; is it at most 64?
-#[derive(Drop)]
+#[derive(Clone, Copy)]
 pub enum Asked {
     Filled,
     Narrow,

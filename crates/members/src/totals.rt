@@ -15,7 +15,7 @@ use item::Item;
 use text::Shape;
 
 // By bucket number: 0 too where the map has no such bucket. What is written of a bucket may be any 32 bits, so the sums have 64.
-#[derive(Drop)]
+#[derive(Clone, Copy)]
 pub struct Totals {
     pub counts: [u32; 256],
     pub sums: [u64; 256],

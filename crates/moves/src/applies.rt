@@ -18,7 +18,7 @@ use hierarchy::{Plan, Rule, Values};
 use survey::looks;
 
 // What is the same for all groups: how many they are, how many places each has, and whether a return moves them, or an edit.
-#[derive(Drop)]
+#[derive(Clone, Copy)]
 pub struct Task {
     pub groups: u32,
     pub w: usize,

@@ -1,6 +1,8 @@
 // Program `operate`, for an operator's day: reads a map as `fill` does and then one call a line from standard input, the map, the table and the
 // named states going on from call to call; prints the row of each group, then the moves or the refusal of each edit and of each return to a state,
 // for a line `2c` the map as frames, for `2d` the rows, and for a store its refusal or nothing.
+#![tactic(auto)]
+
 ghost use Rattle.std.specs.Prelude.{◌≡◌, length};
 
 use protocol::asked::Program;
@@ -12,7 +14,7 @@ fn table_space() -> [u16; 2097152]
     [0; 2097152]
 }
 
-fn main() {
+fn main(rt: HostRuntime) {
     let mut table = table_space();
-    console::run(Program::Operate, &mut table);
+    console::run(Program::Operate, &rt, &mut table);
 }

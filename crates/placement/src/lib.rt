@@ -1,3 +1,5 @@
 // Selects and the rule: a group's list and its tries.
+#![tactic(auto)]
+
 pub mod rule;
 pub mod select;

@@ -20,7 +20,7 @@ use walk::Wanted;
 
 // The working list (the first `len` entries) with the items that its select holds, the list emitted so far (the first `emitted`), and the
 // tries so far.
-#[derive(Drop)]
+#[derive(Clone, Copy)]
 pub struct Progress {
     pub items: [u32; 16],
     pub working: [u32; 16],

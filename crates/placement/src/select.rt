@@ -14,7 +14,7 @@ use item::Item;
 use walk::{Search, Wanted};
 
 // The places put out (the first `len`), each with the item held and the entry, and the tries.
-#[derive(Drop)]
+#[derive(Clone, Copy)]
 pub struct Chosen {
     pub items: [u32; 16],
     pub entries: [u32; 16],

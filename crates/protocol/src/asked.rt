@@ -7,14 +7,14 @@ ghost use Rattle.protocol.specs.Asked.{named_of, asked_of};
 
 use frames::digits;
 
-#[derive(Drop)]
+#[derive(Clone, Copy)]
 pub enum Program {
     Fill,
     Operate,
 }
 
 // `2c`, the map as frames; `2d`, the table as rows; `23` and a name, a store; `24` and a name, a return; or nothing that the program knows.
-#[derive(Drop)]
+#[derive(Clone, Copy)]
 pub enum Asked {
     Frames,
     Rows,
@@ -42,6 +42,7 @@ fn name_in(line: &[u8]) -> u16
 }
 
 // A store or a return: six digits, its kind and a name.
+#[tactic(auto, using(crate::specs::Forms::by_kind, crate::specs::Forms::stores, crate::specs::Forms::returns_to))]
 fn named(line: &[u8]) -> Asked
     ensures { result ≡ named_of line.now }
 {

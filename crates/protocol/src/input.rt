@@ -5,7 +5,7 @@ ghost use Rattle.protocol.specs.Input.{ended_at, longer_at, spot_of, spot_after,
 
 // Where the map stands between two bytes: a line begins; its first byte was `0`; it begins with `05`; it begins otherwise; or the line that
 // begins with `05` has ended, and the map with it.
-#[derive(Drop)]
+#[derive(Clone, Copy)]
 pub enum Spot {
     Start,
     Zero,
@@ -15,7 +15,7 @@ pub enum Spot {
 }
 
 // Where some bytes have led to, and how many of them are the map's.
-#[derive(Drop)]
+#[derive(Clone, Copy)]
 pub struct Part {
     pub spot: Spot,
     pub count: usize,

@@ -1,7 +1,7 @@
 -- Laws of the loops of questions 5, 6 and 13: what is known where records 0 to k - 1 of a list are read, one record more, and the end.
 -- n is the count that the code has of the list, and x what it reads at place k. Assumes nothing.
 use mathlib.Core.Path.{◌≡◌, refl, sym, ◌∙◌}
-use mathlib.Core.Bool.{Bool, true, false, not}
+use mathlib.Core.Bool.{Bool, true, false}
 use mathlib.Core.List.{List, map}
 use Prim.Native.Nat.{ℕ, zero, suc, ◌+◌, ◌*◌, ◌<◌, ◌≤◌}
 use native.Mathlib.Omega.{arith}
@@ -9,7 +9,7 @@ use native.Mathlib.Numerals.{add-one}
 use lib.Dec.{leb, ltb}
 use lib.ListN.{length, get_or, drop, drop_of_length-le}
 use lib.Seq.{drop-cons}
-use borrow.Author.Tests.{not-true, not-false, le-leb, lt-ltb, le-ltb}
+use borrow.Author.Tests.{le-leb, lt-ltb, le-ltb}
 use Rattle.definitions.specs.declared.Device.{Device}
 use Rattle.definitions.specs.Lists.{every, linked_from, linked, sum}
 use Rattle.definitions.specs.Map.{map_of}
@@ -39,15 +39,15 @@ module _ {A : Type 0} (f : A → Bool) (xs : List A) where
 
     module _ (d x : A) (r : Bool) (l : k < n) (p : x ≡ get_or xs k d) (q : r ≡ f x) where
       -- one more passes
-      pub tested-next : not r ≡ false → Tested (k + 1)
+      pub tested-next : r ≡ true → Tested (k + 1)
       tested-next u =
-          let y : f (get_or xs k d) ≡ true = rw p at (sym q ∙ not-false r u) in
+          let y : f (get_or xs k d) ≡ true = rw p at (sym q ∙ u) in
           (omega (arith, e), every-next f xs k d (omega (arith, e)) y ∙ h.1)
 
       -- one does not
-      pub tested-stop : not r ≡ true → false ≡ every f xs
+      pub tested-stop : r ≡ false → false ≡ every f xs
       tested-stop u =
-          let y : f (get_or xs k d) ≡ false = rw p at (sym q ∙ not-true r u) in
+          let y : f (get_or xs k d) ≡ false = rw p at (sym q ∙ u) in
           sym (every-stop f xs k d (omega (arith, e)) y) ∙ h.1
 
 -- ---- a loop that compares each record with the one before it, which is `last`

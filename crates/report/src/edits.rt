@@ -16,14 +16,14 @@ use protocol::{asked, printed};
 const KEPT: usize = 15;
 
 // A line under way.
-#[derive(Drop)]
+#[derive(Clone, Copy)]
 pub struct Line {
     pub bytes: [u8; KEPT],
     pub count: usize,
 }
 
 // What is to be printed: bytes at the front of the space, then the rows of so many groups of the table, each so wide.
-#[derive(Drop)]
+#[derive(Clone, Copy)]
 pub struct Said {
     pub bytes: usize,
     pub groups: u32,
@@ -31,21 +31,21 @@ pub struct Said {
 }
 
 // A line as a byte leaves it, and what is to be printed.
-#[derive(Drop)]
+#[derive(Clone, Copy)]
 pub struct Turn {
     pub line: Line,
     pub said: Said,
 }
 
 // A line with the bytes that were added to it, and how many these are.
-#[derive(Drop)]
+#[derive(Clone, Copy)]
 pub struct Added {
     pub line: Line,
     pub used: usize,
 }
 
 // A turn, and how many of the bytes read it took.
-#[derive(Drop)]
+#[derive(Clone, Copy)]
 pub struct Run {
     pub turn: Turn,
     pub used: usize,

@@ -1,4 +1,6 @@
 // The work of a return between its questions: the arrays before it and after it, and the values put into the text.
+#![tactic(auto)]
+
 ghost use Rattle.std.specs.Prelude.{◌≡◌};
 ghost use Rattle.definitions.specs.Frames.{frames_in};
 ghost use Rattle.definitions.specs.Map.{map_of};

@@ -15,7 +15,7 @@ use Rattle.definitions.specs.Load.{device_ranged}
 use Rattle.definitions.specs.States.{NamedState, drives_in, state_size, states_in, states_of, numbers_of, state_fits, count_fits, names_of, stated, named, room_for_name, devices_named}
 use Rattle.laws.specs.Lists.{every-at, every_map, every-mono, get_d-mapped}
 use Rattle.laws.specs.Loadable.{device-ranged}
-use Rattle.keeping.specs.States.{drives-count, drive_at, drive-at, states-count, how-many, Stated, each-has, stated-is}
+use Rattle.keeping.specs.States.{drives-count, drive_at, drive-at, states-count, how-many, Stated, each-has}
 use Rattle.text.specs.Records.{no_device}
 
 -- ---- the drives of a state

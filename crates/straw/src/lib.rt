@@ -1,4 +1,6 @@
 // Document 01, "The straw draw".
+#![tactic(auto)]
+
 pub mod draw;
 pub mod guard;
 pub mod logarithm;

@@ -1,7 +1,7 @@
 -- The ceiling's law by the code's own places: where every move is of a group that holds a device, the rows without it have no moves. Assumes
 -- nothing.
 use Rattle.std.specs.Prelude.{◌≡◌, true, false, ℕ, ◌<◌}
-use Rattle.std.proofs.Common.{sym, ◌∙◌, subst, arith}
+use Rattle.std.proofs.Common.{sym, ◌∙◌, subst}
 use Rattle.std.proofs.Math.Path.{ap}
 use Rattle.std.proofs.Math.Bool.{false≢true}
 use mathlib.Core.List.{List, [], Memᴰ}

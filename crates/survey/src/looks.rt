@@ -9,14 +9,14 @@ use hierarchy::{Plan, Rule, Values};
 use placement::rule;
 
 // The row is not what fill gives, or it is, and so many places move.
-#[derive(Drop)]
+#[derive(Clone, Copy)]
 pub enum Glance {
     Stale,
     Moves(u32),
 }
 
 // In which groups places can move: in all, and then in few of them or in many; in those whose old row holds the device, or in those whose new row does.
-#[derive(Drop)]
+#[derive(Clone, Copy)]
 pub enum Reach {
     Anywhere,
     Everywhere,
@@ -112,7 +112,7 @@ fn look_apart<'a, 'b>(
 }
 
 // Both runs of a group made at once: if no walk parts, the places of both are at the front of the array.
-#[derive(Drop)]
+#[derive(Clone, Copy)]
 struct Single {
     one: bool,
     row: [u16; 32],

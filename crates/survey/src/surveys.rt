@@ -10,7 +10,7 @@ use crate::looks::{Glance, Reach};
 use hierarchy::{Plan, Rule, Values};
 
 // Whether the table is what fill gives, and then how many places move, and 1 for each group of which some do.
-#[derive(Drop)]
+#[derive(Clone, Copy)]
 pub struct Findings {
     pub fresh: bool,
     pub moves: u32,

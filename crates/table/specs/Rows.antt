@@ -1,6 +1,6 @@
 -- The rows of a table, as code writes them, and that they are the definition's. Assumes nothing.
-use Rattle.std.specs.Prelude.{◌≡◌, refl, List, [], ◌∷◌, ◌++◌, map, length, take, drop}
-use Rattle.std.proofs.Common.{sym, ap, ap₂, ◌∙◌, append_assoc, append-nil, mul-le-mul_right}
+use Rattle.std.specs.Prelude.{◌≡◌, refl, List, [], ◌++◌, length, drop}
+use Rattle.std.proofs.Common.{sym, ap₂, ◌∙◌, append_assoc, mul-le-mul_right}
 use Prim.Native.Nat.{ℕ, zero, suc, ◌+◌, ◌*◌, ◌<◌, ◌≤◌}
 use native.Mathlib.Omega.{arith}
 use Rattle.std.proofs.Math.Numerals.{add-one}
@@ -11,8 +11,8 @@ use Rattle.definitions.specs.declared.Action.{Action}
 use Rattle.definitions.specs.Lists.{joined}
 use Rattle.definitions.specs.Map.{Map, actions_of}
 use Rattle.definitions.specs.View.{View, view_of}
-use Rattle.definitions.specs.Rule.{width_of, Placed, placed_of}
-use Rattle.definitions.specs.Table.{runs_to, runs_of, row_in, table_in, table_of}
+use Rattle.definitions.specs.Rule.{width_of, placed_of}
+use Rattle.definitions.specs.Table.{runs_to, row_in, table_in}
 use Rattle.blocks.specs.Products.{emitted_to}
 use Rattle.tracing.specs.Listed.{table_more}
 use Rattle.placement.specs.Bare.{filled_up, bare_run_to}

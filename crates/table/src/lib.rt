@@ -1,4 +1,6 @@
 // Document 01, "Table, edits, moves": the rows of the groups, each written as a part of the table.
+#![tactic(auto)]
+
 ghost use Rattle.std.specs.Prelude.{◌≡◌, ◌++◌, ◌*◌, ◌≤◌, length, drop};
 ghost use Rattle.blocks.specs.Products.{emitted_to};
 ghost use Rattle.hierarchy.specs.Arrays.{view_in, actions_in};

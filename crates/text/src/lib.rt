@@ -1,5 +1,7 @@
 // How many lines a text has of each kind. After questions 1 to 4 this is all that is needed to read any field at its place. No function is here.
-#[derive(Drop)]
+#![tactic(auto)]
+
+#[derive(Clone, Copy)]
 pub struct Shape {
     pub groups: usize,
     pub devices: usize,

@@ -1,8 +1,7 @@
 -- Document 01, "Table, edits, moves": the cause that is traced is the one that the definitions give of the place's two walks. Assumes
 -- nothing.
 use Rattle.std.specs.Prelude.{◌≡◌, refl, true, false, List, [], ◌∷◌, ◌++◌, ◌⊎◌, ℕ, suc, ◌/◌, ◌<◌, length}
-use Rattle.std.proofs.Common.{sym, ap, ◌∙◌, append-nil, inl, inr, ⊎_elim, arith, eq-eqb, ne_eqb}
-use Rattle.std.proofs.Math.Decide.{dec_lt}
+use Rattle.std.proofs.Common.{sym, ap, ◌∙◌, append-nil, inl, inr, arith, eq-eqb, ne_eqb}
 use Rattle.definitions.specs.declared.Mode.{Mode}
 use Rattle.definitions.specs.declared.Action.TheVariants.{Select, Emit, Idle}
 use Rattle.definitions.specs.declared.Drawn.{Drawn}
@@ -17,12 +16,11 @@ use Rattle.definitions.specs.declared.Change.{Change}
 use Rattle.definitions.specs.Map.{Map}
 use Rattle.definitions.specs.Select.{Place, place_under}
 use Rattle.definitions.specs.Edit.{put, same_drawn, same_verdict, ends_of, or_else, parting, is_held, cause_of}
-use Rattle.definitions.specs.Calls.{independent, fits}
-use Rattle.laws.specs.Loadable.{Loadable}
-use Rattle.tracing.specs.Runs.{leaves, step_at, working_at, place_at, working-stays, step-place, step-above, place-stays, place-past}
+use Rattle.definitions.specs.Calls.{independent}
+use Rattle.tracing.specs.Runs.{leaves, step_at, working_at, place_at, working-stays, step-place, step-above, place-stays}
 use Rattle.tracing.specs.Parting.{At, at_after, at_before, at-no-prefix}
 use Rattle.tracing.specs.Edited.{put_step, put-stays, put_count}
-use Rattle.tracing.specs.Traced.{Here, Traced, above, stays, accept, drawn, held-old, held_new, traced}
+use Rattle.tracing.specs.Traced.{Here, Traced, above, stays, accept, drawn, held-old, held_new}
 
 -- ---- the ends of two events
 
@@ -174,12 +172,6 @@ module _ (m : Map) (c : Change) (x : ℕ) where
   cause-is ind (held-old {w} h f o g q) l = held-cause w f (here-at h)
   cause-is ind (held_new {u} h f o g q) l = cause-held u f (here-at h)
 
-  -- a place is the same in both runs, entry and walk, or its walks part with a cause that is traced
-  pub place-parts : Loadable m → independent m ≡ true → fits m c ≡ true → (k p : ℕ) → p < length (working_at m x k)
-      → (place_at m x k p ≡ place_at (put m c) x k p)
-      ⊎ ((cause : ℕ) × Traced m c x k p cause × Caused (place_at m x k p).walk (place_at (put m c) x k p).walk cause)
-  place-parts L ind f k p l = ⊎_elim (λ e. inl e) (λ q. inr (q.0, q.1, cause-is ind q.1 l)) (traced m c L ind f x k p)
-
   -- so the cause that is traced is the definitions'
   pub traced-cause : independent m ≡ true → {k p cause : ℕ} → Traced m c x k p cause → p < length (working_at m x k)
       → cause_of (parting (place_at m x k p).walk (place_at (put m c) x k p).walk) ≡ cause
@@ -189,14 +181,3 @@ module _ (m : Map) (c : Change) (x : ℕ) where
   pub same-cause : (k p : ℕ) → place_at m x k p ≡ place_at (put m c) x k p → cause_of (parting (place_at m x k p).walk (place_at (put m c) x k p).walk) ≡ 0
   unfolding cause_of
   same-cause k p e = rw (← e, parting-self (place_at m x k p).walk)
-
-  -- where the entries differ, the walks do
-  pub walks-part : Loadable m → independent m ≡ true → fits m c ≡ true → (k p : ℕ) → ((place_at m x k p).entry ≡ (place_at (put m c) x k p).entry → ⊥)
-      → (place_at m x k p).walk ≡ (place_at (put m c) x k p).walk → ⊥
-  walks-part L ind f k p d e = go (traced m c L ind f x k p) (dec_lt p (length (working_at m x k)))
-    where
-      go : (place_at m x k p ≡ place_at (put m c) x k p) ⊎ ((cause : ℕ) × Traced m c x k p cause) → Dec (p < length (working_at m x k)) → ⊥
-      go (inl q) l = d (ap (λ (a : Place). a.entry) q)
-      go (inr (cause, q)) (yes l) = caused-differ (cause-is ind q l) e
-      go (inr (cause, q)) (no l) =
-          d (ap (λ (a : Place). a.entry) (place-past m x k p (omega arith) ∙ sym (place-past (put m c) x k p (omega (arith, put_count m c ind x k)))))

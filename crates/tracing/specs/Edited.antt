@@ -26,7 +26,8 @@ use Rattle.definitions.specs.Load.{has_device}
 use Rattle.definitions.specs.Calls.{independent, fits}
 use Rattle.laws.specs.Lists.{both}
 use Rattle.laws.specs.Members.{at_mem, map-ext}
-use Rattle.laws.specs.Tree.{Fork, tree-law}
+use Rattle.laws.specs.Tree.{Fork}
+use Rattle.laws.proofs.Tree.{tree-law}
 use Rattle.laws.specs.Loadable.{Loadable, put-type, put-bucket-kind, put-children, put-actions, put-acceptance, weight-leaves-acceptance, acceptance-leaves-weights}
 use Rattle.laws.specs.Forest.{Holds, Raises, kids_of, put-raises, put-lowers, put-weights, child-heavier, draw-child}
 use Rattle.tracing.specs.Runs.{step_at, working_at, steps-same, count_same}

@@ -1,4 +1,6 @@
 // Change 4: the draw of a tree bucket: from the root to a leaf, with one hash of four at each node.
+#![tactic(auto)]
+
 ghost use Rattle.std.specs.Prelude.{◌≡◌, min, max, ◌+◌, ◌*◌, ◌/◌, ◌^◌, ◌<◌, ◌≤◌, ltb, length};
 ghost use Rattle.definitions.specs.Hash.{hash4};
 ghost use Rattle.definitions.specs.Tree.{height_of, leaf_from, tree_of};
@@ -8,7 +10,7 @@ ghost use Rattle.tree.specs.Walking.{turned};
 use definitions::Drawn;
 
 // The draw of group x with try number r at the bucket of this item number.
-#[derive(Drop)]
+#[derive(Clone, Copy)]
 pub struct Asked {
     pub seed: u32,
     pub x: u32,
@@ -17,7 +19,7 @@ pub struct Asked {
 }
 
 // A node: its label, and what the children before it weigh together, and those before its end.
-#[derive(Drop)]
+#[derive(Clone, Copy)]
 pub struct Node {
     pub label: u32,
     pub lo: u32,

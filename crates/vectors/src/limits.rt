@@ -9,7 +9,7 @@ use report::edits::Line;
 
 // A line before its edit is made: whether it is one of an acceptance, its device, whether the value rises, and the ceiling that is told with the
 // map and the table as they are.
-#[derive(Drop)]
+#[derive(Clone, Copy)]
 pub struct Before {
     pub known: bool,
     pub device: u32,
@@ -18,7 +18,7 @@ pub struct Before {
 }
 
 // The moves of an edit, its ceiling, the width of the lists and the number of the case.
-#[derive(Drop)]
+#[derive(Clone, Copy)]
 pub struct Bound {
     pub moves: u32,
     pub ceiling: u32,
@@ -28,7 +28,7 @@ pub struct Bound {
 
 // Of the edits so far that were taken: how many, how many of them moved more than their ceiling, the sum of the moves and that of the ceilings, and
 // the edit that came nearest to its own.
-#[derive(Drop)]
+#[derive(Clone, Copy)]
 pub struct Limits {
     pub edits: u64,
     pub above: u64,
@@ -149,10 +149,10 @@ fn counted(t: Limits, b: Bound) -> Limits {
     let above = if b.ceiling < b.moves { 1 } else { 0 };
     let last = t.tightest;
     Limits {
-        edits: std::num::wrapping_add_u64(t.edits, 1),
-        above: std::num::wrapping_add_u64(t.above, above),
-        moves: std::num::wrapping_add_u64(t.moves, b.moves as u64),
-        most: std::num::wrapping_add_u64(t.most, b.ceiling as u64),
+        edits: t.edits.wrapping_add(1),
+        above: t.above.wrapping_add(above),
+        moves: t.moves.wrapping_add(b.moves as u64),
+        most: t.most.wrapping_add(b.ceiling as u64),
         tightest: if tighter(b, last) { b } else { last },
     }
 }

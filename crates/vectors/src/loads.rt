@@ -2,7 +2,7 @@
 // stands, and `27` the map without its last byte, which is refused and leaves the states.
 use report::edits::Line;
 
-#[derive(Drop)]
+#[derive(Clone, Copy)]
 pub enum Load {
     Whole,
     Short,

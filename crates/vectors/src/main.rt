@@ -1,18 +1,22 @@
 // Compares the engine with a CRUSH by another hand. The file `cases` of data/ holds maps with edits and other calls and what that CRUSH gave for
 // each: the rows as program `fill` prints them, a frame `12` with the tries (8) behind each row of a group below 64, what each call prints, as in
 // program `operate`, and the map that is left; or the one refusal of load or fill. Beside each edit of an acceptance stands its ceiling.
+#![tactic(auto)]
+
 mod limits;
 mod loads;
 
-ghost use Rattle.std.specs.Prelude.{◌≡◌, ◌+◌, ◌*◌, ◌≤◌, length};
+ghost use Rattle.std.specs.Prelude.{◌≡◌, ◌+◌, ◌*◌, ◌≤◌, length, IfOk};
 
 use frames::digits;
-use libc::STDOUT_FILENO;
 use limits::Limits;
 use loads::Load;
 use protocol::asked::Program;
 use report::edits;
 use report::edits::Line;
+use std::fs::File;
+use std::io::Read;
+use std::{fs, io};
 
 // Where a comparison stands that met a difference: behind every byte wanted.
 const LOST: usize = usize::MAX;
@@ -21,7 +25,7 @@ const LOST: usize = usize::MAX;
 const TRIED: u32 = 64;
 
 // The calls of a case: the line under way, how many of the bytes wanted were met, and the ceilings.
-#[derive(Drop)]
+#[derive(Clone, Copy)]
 struct Step {
     line: Line,
     at: usize,
@@ -29,21 +33,21 @@ struct Step {
 }
 
 // What came of a case: how many of the bytes wanted were met, and the ceilings.
-#[derive(Drop)]
+#[derive(Clone, Copy)]
 struct Met {
     at: usize,
     limits: Limits,
 }
 
 // Whether a case is right, and the ceilings.
-#[derive(Drop)]
+#[derive(Clone, Copy)]
 struct Judged {
     right: bool,
     limits: Limits,
 }
 
 // How many cases were read, how many of them were wrong, the number of the first of these, or 0, whether the file has ended, and the ceilings.
-#[derive(Drop)]
+#[derive(Clone, Copy)]
 struct Tally {
     cases: u64,
     wrong: u64,
@@ -65,11 +69,25 @@ fn map_space() -> [u8; 65600]
     [0; 65600]
 }
 
+// The calls of a case.
+fn given_space() -> [u8; 65536]
+    ensures { 65536 ≡ length result }
+{
+    [0; 65536]
+}
+
 // The longest answer: 16,384 rows of two places.
 fn want_space() -> [u8; 393216]
     ensures { 393216 ≡ length result }
 {
     [0; 393216]
+}
+
+// What `fill` lends to the moves.
+fn moves_space() -> [u8; 65536]
+    ensures { 65536 ≡ length result }
+{
+    [0; 65536]
 }
 
 // What `fill` lends to the table, in places of 16 bits.
@@ -329,7 +347,7 @@ fn end_agrees(
     Met { at, limits }
 }
 
-// All calls, with the 64 KiB that `fill` lends to the moves.
+// All calls.
 fn calls_agree(
     map: &mut [u8],
     table: &mut [u16],
@@ -339,7 +357,7 @@ fn calls_agree(
     first: Met,
     case: u64,
 ) -> Met {
-    let mut space = io::large_buffer();
+    let mut space = moves_space();
     let limits = first.limits;
     let begun = Step {
         line: edits::no_line(),
@@ -463,11 +481,26 @@ fn answers_agree(
     }
 }
 
-// Fills the first n bytes of a space from the file.
-fn read_front(fd: i32, space: &mut [u8], n: usize) -> bool
+// Fills the space as far as the file goes on, and answers how many bytes it got.
+fn read_full(file: &mut File, space: &mut [u8]) -> io::Result<usize>
+    ensures { IfOk result (λ n. n ≤ length space.new) }
+{
+    let mut at: usize = 0;
+    while at < space.len() {
+        let n = file.read(&mut space[at..])?;
+        if n == 0 {
+            break;
+        }
+        at += n;
+    }
+    Ok(at)
+}
+
+// Fills the first n bytes of a space from the file, and answers whether there were so many.
+fn read_front(file: &mut File, space: &mut [u8], n: usize) -> io::Result<bool>
     requires { n ≤ length space.old }
 {
-    io::read_full(fd, &mut space[..n]) == n
+    Ok(read_full(file, &mut space[..n])? == n)
 }
 
 // A number of a case's first line, which has five of eight digits, and byte 10.
@@ -479,23 +512,23 @@ fn number(head: &[u8; 41], at: usize) -> usize
 
 // Reads the map, the calls and the answer of a case.
 fn read_all(
-    fd: i32,
+    file: &mut File,
     map: &mut [u8],
     m: usize,
     given: &mut [u8],
     e: usize,
     want: &mut [u8],
     n: usize,
-) -> bool
+) -> io::Result<bool>
     requires { (m ≤ length map.old) × (e ≤ length given.old) × (n ≤ length want.old) }
 {
-    if !read_front(fd, map, m) {
-        return false;
+    if !read_front(file, map, m)? {
+        return Ok(false);
     }
-    if !read_front(fd, given, e) {
-        return false;
+    if !read_front(file, given, e)? {
+        return Ok(false);
     }
-    read_front(fd, want, n)
+    read_front(file, want, n)
 }
 
 // Whether a case that was read is right.
@@ -526,32 +559,32 @@ fn unread(t: Limits) -> Judged {
 
 // Reads what follows a case's first line, and answers whether the case is right.
 fn judge(
-    fd: i32,
+    file: &mut File,
     head: &[u8; 41],
     map: &mut [u8],
     given: &mut [u8],
     want: &mut [u8],
     case: u64,
     t: Limits,
-) -> Judged {
+) -> io::Result<Judged> {
     let m = number(head, 0);
     let e = number(head, 8);
     let n = number(head, 16);
     let groups = digits::field(head, 24, 8);
     let w = number(head, 32);
     if m > map.len() {
-        return unread(t);
+        return Ok(unread(t));
     }
     if e > given.len() {
-        return unread(t);
+        return Ok(unread(t));
     }
     if n > want.len() {
-        return unread(t);
+        return Ok(unread(t));
     }
-    if !read_all(fd, map, m, given, e, want, n) {
-        return unread(t);
+    if !read_all(file, map, m, given, e, want, n)? {
+        return Ok(unread(t));
     }
-    judge_read(&mut map[..m], &given[..e], groups, w, &want[..n], case, t)
+    Ok(judge_read(&mut map[..m], &given[..e], groups, w, &want[..n], case, t))
 }
 
 // A tally with one case more.
@@ -568,7 +601,7 @@ fn counted(t: Tally, case: u64, j: Judged) -> Tally {
     }
     Tally {
         cases: case,
-        wrong: std::num::wrapping_add_u64(t.wrong, 1),
+        wrong: t.wrong.wrapping_add(1),
         first: if t.wrong == 0 { case } else { t.first },
         ended: false,
         limits,
@@ -576,27 +609,38 @@ fn counted(t: Tally, case: u64, j: Judged) -> Tally {
 }
 
 // Reads the next case and counts it.
-fn count_case(fd: i32, t: Tally, map: &mut [u8], given: &mut [u8], want: &mut [u8]) -> Tally {
+fn count_case(
+    file: &mut File,
+    t: Tally,
+    map: &mut [u8],
+    given: &mut [u8],
+    want: &mut [u8],
+) -> io::Result<Tally> {
     let mut head = [0u8; 41];
-    let n = io::read_full(fd, &mut head);
+    let n = read_full(file, &mut head)?;
     let limits = t.limits;
     if n == 0 {
-        return Tally {
+        return Ok(Tally {
             cases: t.cases,
             wrong: t.wrong,
             first: t.first,
             ended: true,
             limits,
-        };
+        });
     }
-    let case = std::num::wrapping_add_u64(t.cases, 1);
-    let judged = judge(fd, &head, map, given, want, case, limits);
-    counted(t, case, judged)
+    let case = t.cases.wrapping_add(1);
+    let judged = judge(file, &head, map, given, want, case, limits)?;
+    Ok(counted(t, case, judged))
 }
 
-// Reads on to the file's end. A proved loop has to end, and nothing says that the file does: the turns are counted down from a number
-// that no run uses up.
-fn count_cases(fd: i32, map: &mut [u8], given: &mut [u8], want: &mut [u8]) -> Tally {
+// Reads on to the file's end. A proved loop has to end, and nothing says that the file does: the cases are counted up to a number that no file
+// comes to.
+fn count_cases(
+    file: &mut File,
+    map: &mut [u8],
+    given: &mut [u8],
+    want: &mut [u8],
+) -> io::Result<Tally> {
     let mut t = Tally {
         cases: 0,
         wrong: 0,
@@ -604,51 +648,42 @@ fn count_cases(fd: i32, map: &mut [u8], given: &mut [u8], want: &mut [u8]) -> Ta
         ended: false,
         limits: limits::none(),
     };
-    let mut turns = u64::MAX;
-    while turns > 0 {
-        t = count_case(fd, t, map, given, want);
+    for _ in 0..u64::MAX {
+        t = count_case(file, t, map, given, want)?;
         if t.ended {
-            return t;
+            break;
         }
-        turns -= 1;
     }
-    t
+    Ok(t)
 }
 
-// A number, and the words behind it.
-fn print_number(n: u64, words: &[u8]) {
-    io::print_decimal(STDOUT_FILENO, n);
-    io::write_all(STDOUT_FILENO, words);
-}
-
-fn print_limits(t: Limits) {
+fn print_limits(rt: &impl Print, t: Limits) -> io::Result<()> {
     let tightest = t.tightest;
-    print_number(t.edits, b" edits of an acceptance, ");
-    print_number(t.above, b" above their ceiling; ");
-    print_number(t.moves, b" moves of at most ");
-    print_number(t.most, b"; the tightest: ");
-    print_number(tightest.moves as u64, b" of ");
-    print_number(tightest.ceiling as u64, b" at width ");
-    print_number(tightest.width as u64, b", case ");
-    print_number(tightest.case, b"\n");
+    print!(rt;
+        "{} edits of an acceptance, {} above their ceiling; ",
+        t.edits, t.above
+    )?;
+    print!(rt; "{} moves of at most {}; ", t.moves, t.most)?;
+    print!(rt; "the tightest: {} of {} ", tightest.moves, tightest.ceiling)?;
+    println!(rt; "at width {}, case {}", tightest.width, tightest.case)
 }
 
-fn print(t: Tally) {
-    print_number(t.cases, b" cases, ");
-    print_number(t.wrong, b" wrong");
+fn print(rt: &impl Print, t: Tally) -> io::Result<()> {
+    print!(rt; "{} cases, {} wrong", t.cases, t.wrong)?;
     if t.wrong != 0 {
-        io::write_all(STDOUT_FILENO, b", first the one of number ");
-        io::print_decimal(STDOUT_FILENO, t.first);
+        print!(rt; ", first the one of number {}", t.first)?;
     }
-    io::write_all(STDOUT_FILENO, b"\n");
-    let limits = t.limits;
-    print_limits(limits);
+    println!(rt)?;
+    print_limits(rt, t.limits)
 }
 
-fn main() {
-    let fd = os::open_read(b"cases");
+fn main(rt: HostRuntime) -> io::Result<()> {
+    let mut cases = fs::open(&rt, "cases")?;
     let mut map = map_space();
-    let mut given = io::large_buffer();
+    let mut given = given_space();
     let mut want = want_space();
-    print(count_cases(fd, &mut map, &mut given, &mut want));
+    print(
+        &rt,
+        count_cases(&mut cases, &mut map, &mut given, &mut want)?,
+    )
 }

@@ -1,5 +1,7 @@
 // Document 01, "Walk, select and rule": the test of an item, a turn of a rank, and a rank; and, by document 02, change 1, the inner walk of a
 // select through.
+#![tactic(auto)]
+
 ghost use Rattle.std.specs.Prelude.{◌≡◌, ◌<◌, ◌≤◌, eqb};
 ghost use Rattle.definitions.specs.Lists.{has};
 ghost use Rattle.definitions.specs.Hash.{hash2};
@@ -17,7 +19,7 @@ use item::Item;
 pub const HOLE: u32 = 65535;
 
 // What a select looks for at each bucket of the working list: n items of type t.
-#[derive(Drop)]
+#[derive(Clone, Copy)]
 pub struct Wanted {
     pub mode: Mode,
     pub n: u32,
@@ -25,7 +27,7 @@ pub struct Wanted {
 }
 
 // One rank of a select: what it looks for, the bucket that it starts at, and its number r.
-#[derive(Drop)]
+#[derive(Clone, Copy)]
 pub struct Search {
     pub wanted: Wanted,
     pub start: u32,
@@ -33,6 +35,7 @@ pub struct Search {
 }
 
 // Does device d, of acceptance a, pass for group x? By document 02, change 3, 65,536 and 0 decide it by themselves, without a hash.
+#[tactic(auto, using(std::proofs::lemmas::Bool::Decides::nat_tests), unfolding(definitions::specs::Walk::accepts))]
 fn decide(seed: u32, x: u32, d: u32, a: u32) -> bool
     ensures { result ≡ accepts (hash2 seed x d) a }
 {
@@ -207,6 +210,7 @@ pub fn failed_to(b: u32, k: u32, s: State) -> State
 }
 
 // Where the next draw is after a held item. "With f_r now below 3": f_r has risen for this failure when it is tested.
+#[tactic(auto, using(std::proofs::lemmas::Bool::Decides::nat_tests), unfolding(definitions::specs::Walk::retry_at))]
 pub fn retry_at(start: u32, b: u32, s: State) -> u32
     requires { Going s }
     ensures { result ≡ retry_at start b s }

@@ -1,4 +1,6 @@
 // The weights of the buckets, type by type, and of the children in their order.
+#![tactic(auto)]
+
 ghost use Rattle.std.specs.Prelude.{◌≡◌, map, ℕ, ◌+◌, ◌<◌, ◌^◌, length, get_or};
 ghost use Rattle.definitions.specs.Lists.{sum};
 ghost use Rattle.hierarchy.specs.Arrays.{ItemRange};

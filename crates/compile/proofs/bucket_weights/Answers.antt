@@ -1,0 +1,25 @@
+-- `compile::bucket_weights` meets its contract: the sections of the plan are lent as the arrays that they hold, and the loads that come of
+-- them are the weights of the map's buckets. Assumes nothing.
+use mathlib.Core.Path.{◌≡◌}
+use native.Mathlib.Omega.{arith}
+use lib.ListN.{length}
+use borrow.Author.Rules.{rules}
+use Rattle.hierarchy.specs.Sections.{section, section-length}
+use Rattle.hierarchy.specs.Arrays.{types_at}
+use Rattle.compile.specs.Weighing.{within, fitting, loads-are}
+use Rattle.compile.proofs.bucket_weights.Goals as goal
+
+pub loads_of-requires : goal.loads_of-requires
+unfolding section
+loads_of-requires c =
+    let s = c in
+    let m = s.requires.0 in
+    let w = s.requires.1 in
+    let k = w.planned in
+    let n : length s.args.plan.now ≡ 2305 = search rules in record { within = (within m w.loadable k.arranged w.owned k.typed, section-length types_at 256 s.args.plan.now (omega (arith, n))); by_index = fitting m w.loadable k.arranged w.owned k.typed }
+
+pub returns : goal.returns
+unfolding section
+returns c m w =
+    let k = w.planned in
+    rw c.loads_of.ensures (loads-are m w.loadable k.arranged w.owned k.typed)

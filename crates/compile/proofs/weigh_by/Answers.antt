@@ -1,0 +1,25 @@
+-- `compile::weigh_by` meets its contract, of any such map. Assumes nothing.
+use Rattle.compile.specs.Compiled.{sound-is}
+use Rattle.compile.specs.Living.{flagged-is}
+use Rattle.compile.proofs.weigh_by.Goals as goal
+
+pub bucket_weights-loads-requires : goal.bucket_weights-loads-requires
+bucket_weights-loads-requires c = let (m, w, a) = c.requires in (m, w)
+
+pub live_weights-lives-requires : goal.live_weights-lives-requires
+live_weights-lives-requires c = c.requires
+
+pub values_of-values-requires : goal.values_of-values-requires
+values_of-values-requires c =
+    let b = c in
+    let (m, w, a) = b.requires in
+    (m, w, b.bucket_weights-loads.ensures m w)
+
+pub returns : goal.returns
+returns c m w a =
+    let v = c in
+    let b = v in
+    let l = b.bucket_weights-loads.ensures m w in
+    let o = c.values_of-values.ensures in
+    let e = o.result_value m w l a in
+    (e, l, sound-is _ w.loadable w.planned, flagged-is _ w.loadable _ _ e (rw o.result_value_2 (v.live_weights-lives.ensures m w a).0))

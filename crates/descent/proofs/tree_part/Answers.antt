@@ -1,0 +1,6 @@
+-- `descent::tree_part` meets its contract: the parts that are lent to the draw are the children's. Assumes nothing.
+use native.Mathlib.Nat.{add-sub_cancel_left}
+use Rattle.descent.proofs.tree_part.Goals as goal
+
+pub returns : goal.returns
+returns c = rw add-sub_cancel_left at c.draw.ensures

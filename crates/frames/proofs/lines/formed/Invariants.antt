@@ -1,0 +1,18 @@
+use mathlib.Core.Path.{◌≡◌, sym, ◌∙◌}
+use Prim.Native.Nat.{◌-◌, ◌≤◌}
+use native.Mathlib.Omega.{arith}
+use lib.ListN.{length, drop, drop_of_length-le}
+use borrow.Author.Tests.{not-true, not-false}
+use borrow.Author.Rules.{rules}
+use Rattle.definitions.specs.Lists.{every}
+use Rattle.definitions.specs.Frames.{lines_of}
+use Rattle.definitions.specs.Load.{line_formed, formed}
+use Rattle.laws.specs.Lists.{every_first, every-fails}
+use Rattle.text.specs.Lines.{plain}
+use Rattle.frames.proofs.lines.formed.Given as goal
+
+abbrev pub invariant-loop-at : goal.invariant-loop-at
+invariant-loop-at l = (l.at ≤ length l.t) × (every line_formed (lines_of (drop l.at l.t)) ≡ every line_formed (lines_of l.t))
+
+abbrev pub decreases-loop-at : goal.decreases-loop-at
+decreases-loop-at l = length l.t - l.at

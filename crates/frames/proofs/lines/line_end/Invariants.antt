@@ -1,0 +1,13 @@
+use mathlib.Core.Path.{◌≡◌}
+use Prim.Native.Nat.{◌+◌, ◌-◌, ◌<◌, ◌≤◌}
+use native.Mathlib.Omega.{arith}
+use lib.ListN.{length, drop}
+use borrow.Author.Rules.{rules}
+use Rattle.text.specs.Lines.{first, not_last, first_next, first-stop, line_at}
+use Rattle.frames.proofs.lines.line_end.Given as goal
+
+abbrev pub invariant-loop-e : goal.invariant-loop-e
+invariant-loop-e l = (l.at ≤ l.e) × (l.e < length l.t) × (length (first (drop l.at l.t)) ≡ (l.e - l.at) + length (first (drop l.e l.t)))
+
+abbrev pub decreases-loop-e : goal.decreases-loop-e
+decreases-loop-e l = length l.t - l.e

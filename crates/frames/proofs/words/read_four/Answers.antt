@@ -1,0 +1,19 @@
+-- `frames::words::read_four` meets its contract: the digits' values, spread and packed. Assumes nothing.
+use mathlib.Core.Path.{◌∙◌}
+use native.Mathlib.Omega.{arith}
+use lib.ListN.{drop}
+use borrow.Author.Rules.{rules}
+use Rattle.frames.specs.Words.{ones, spread-room, read-four}
+use Rattle.frames.proofs.words.read_four.Goals as goal
+
+pub spread-requires : goal.spread-requires
+unfolding ones
+spread-requires c =
+    let s = c in
+    (omega arith, rw c.four.ensures.0 (spread-room 4 (drop s.args.at s.args.s.now) s.requires.1))
+
+pub returns : goal.returns
+unfolding ones
+returns c =
+    let s = c in
+    c.packed.ensures ∙ rw (c.spread.ensures, c.four.ensures.0) (read-four (drop s.args.at s.args.s.now) s.requires.1)

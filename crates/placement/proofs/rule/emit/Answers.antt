@@ -1,0 +1,17 @@
+-- `placement::rule::emit` meets its contract. Assumes nothing.
+use mathlib.Core.Path.{◌≡◌, refl}
+use native.Mathlib.Omega.{arith}
+use borrow.Author.Rules.{rules}
+use lib.ListN.{length}
+use Rattle.blocks.specs.Products.{product_after, added_by}
+use Rattle.placement.specs.Progress.{run-emit}
+use Rattle.placement.proofs.rule.emit.Goals as goal
+
+pub returns : goal.returns
+unfolding product_after added_by
+returns c =
+    let s = c in
+    let p = s.args.p in
+    let w : length p.working ≡ 16 = search rules in
+    let l : length p.list ≡ 32 = search rules in
+    (λ v x. run-emit v x p _ p.len refl (omega (arith, w)) (omega (arith, l)) c.append-longer.ensures, (omega arith, omega arith), record { len = omega arith; emitted = omega arith; tries = omega arith })

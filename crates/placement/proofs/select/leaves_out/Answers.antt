@@ -1,0 +1,15 @@
+-- `placement::select::leaves_out` meets its contract: each arm is a case of `left_out`. Assumes nothing.
+use Rattle.placement.specs.Bare.{left_out}
+use Rattle.placement.proofs.select.leaves_out.Goals as goal
+
+pub returns-in-FirstN : goal.returns-in-FirstN
+unfolding left_out
+returns-in-FirstN c = simp c.in-FirstN.is
+
+pub returns-in-Independent : goal.returns-in-Independent
+unfolding left_out
+returns-in-Independent c = simp c.in-Independent.is
+
+pub returns-in-Through : goal.returns-in-Through
+unfolding left_out
+returns-in-Through c = simp c.in-Through.is

@@ -1,0 +1,11 @@
+use Prim.Native.Nat.{◌-◌}
+use Rattle.definitions.specs.Map.{map_of}
+use Rattle.definitions.specs.Load.{bucket_ranged}
+use Rattle.ranges.proofs.Laws.{Tested}
+use Rattle.ranges.proofs.ranged.buckets.Given as goal
+
+abbrev pub invariant-loop-k : goal.invariant-loop-k
+invariant-loop-k l = Tested bucket_ranged (map_of l.t).buckets l.k
+
+abbrev pub decreases-loop-k : goal.decreases-loop-k
+decreases-loop-k l = l.s.buckets - l.k

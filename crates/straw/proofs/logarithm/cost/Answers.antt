@@ -1,0 +1,13 @@
+-- `straw::logarithm::cost` meets its contract. Assumes nothing.
+use mathlib.Core.Path.{◌≡◌, ◌∙◌, ap}
+use Prim.Native.Nat.{ℕ, ◌+◌}
+use native.Mathlib.Omega.{arith}
+use borrow.Author.Rules.{rules}
+use Rattle.definitions.specs.Straw.{L, cost}
+use Rattle.straw.proofs.logarithm.cost.Goals as goal
+
+pub returns : goal.returns
+unfolding cost
+returns c =
+    let e : c.log.result ≡ L (c.args.h + 1) = c.log.ensures.0 ∙ ap (λ (n : ℕ). L (n + 1)) c.wide-u.ensures in
+    (rw e, omega arith)
