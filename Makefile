@@ -8,12 +8,12 @@
 PREFIX ?= /usr/local
 programs := target/bin/fill target/bin/operate
 archive := target/staticlib/libcrush_place.a
-sources := crates.txt $(shell find crates/ -type f)
+sources := crates.txt $(shell find crates/*/src crates/*/specs crates/*/proofs -type f)
 
 all: $(programs) $(archive)
 
 $(programs) &: $(sources)
-	rt check fill operate
+	packaging/programs
 	@touch $(programs)
 
 $(archive): $(sources)

@@ -4,7 +4,7 @@
  *
  * From the root of the repository:
  *
- *     rt staticlib crush_place
+ *     packaging/archive
  *     gcc -O2 -Wall -Wextra -std=c11 -Iinclude -o target/campaign examples/campaign.c target/staticlib/libcrush_place.a
  *     target/campaign examples/archive.map 22002000003e80 22002100003e80
  *

@@ -4,7 +4,7 @@
  *
  * From the root of the repository:
  *
- *     rt staticlib crush_place
+ *     packaging/archive
  *     gcc -O2 -Wall -Wextra -std=c11 -Iinclude -o target/ceiling examples/ceiling.c target/staticlib/libcrush_place.a
  *     target/ceiling examples/archive.map 0020
  *

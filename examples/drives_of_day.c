@@ -3,7 +3,7 @@
  *
  * From the root of the repository:
  *
- *     rt staticlib crush_place
+ *     packaging/archive
  *     gcc -O2 -Wall -Wextra -std=c11 -Iinclude -o target/drives_of_day examples/drives_of_day.c target/staticlib/libcrush_place.a
  *     target/drives_of_day examples/archive.map 816 20261115
  *

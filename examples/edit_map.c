@@ -3,7 +3,7 @@
  *
  * From the root of the repository:
  *
- *     rt staticlib crush_place
+ *     packaging/archive
  *     gcc -O2 -Wall -Wextra -std=c11 -Iinclude -o target/edit_map examples/edit_map.c target/staticlib/libcrush_place.a
  *     cp examples/archive.map target/edited.map
  *     target/edit_map target/edited.map 21002000000000

@@ -3,7 +3,7 @@
  * staff keeping a map and its table: filling the table, editing a drive, telling beforehand what an edit moves at most, storing the drives' values
  * under a name and returning to them, writing the map.
  *
- * Link with the archive that `rt staticlib crush_place` writes (target/staticlib/libcrush_place.a). It has no unwind tables and no debug lines:
+ * Link with the archive that `packaging/archive` writes (target/staticlib/libcrush_place.a). It has no unwind tables and no debug lines:
  * inside it a debugger shows the names of functions but no lines, and a backtrace may end there. A drive of acceptance 65,536 or 0 is tested
  * without a hash: a breakpoint at 'jenkins::hash2' stops at the tests of the others, and once for the group of a day.
  *

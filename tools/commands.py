@@ -6,11 +6,12 @@ Usage: commands.py [PAGE..] (from any folder; target/bin and target/staticlib ha
 A fenced block with a line that begins with `$ ` has commands: each goes on in the next line where it ends in a backslash, and the lines below it are
 what it prints, standard error too. The blocks of a page are run in order by one bash, in a copy of the root that has target/bin and target/staticlib
 but nothing else under target/, so that a page makes what it uses. A block that is opened by `must-fail CRATE/EDIT` shows what the prover says of
-that edit: each line of its output is looked up in the log that the gate has just written, since to prove again takes longer than all commands.
+that edit. To prove again takes longer than all commands, so only the first error is looked for among its lines, as far as the gate's log has it.
 
-Of a command in running text, in backticks, its program has to be there: a file, a target of the Makefile, or a command of `rt`. The examples of a
-manual page of section 1 are run where its programs are installed, beside the example archive, and have to succeed; one of section 3 has to be a
-command of a page. What needs a program that is not installed is left out, and said. The last line counts; the status is 1 where something is wrong."""
+Of a command in running text, in backticks, its program has to be there: a file, a target of the Makefile, or a command of `rt`, which docs/CHANGES.md
+may name as it was called then. The examples of a manual page of section 1 are run where its programs are installed, beside the example archive, and
+have to succeed; one of section 3 has to be a command of a page. What needs a program that is not installed is left out, and said. The last line
+counts; the status is 1 where something is wrong."""
 import difflib
 import os
 import pathlib
@@ -130,16 +131,15 @@ def run(page, commands, prepare=copy_of_root):
 
 
 def look_up(page, edit, commands):
-    """Looks the output up in the log of a must-fail edit."""
-    log = ROOT / "target" / "must-fail" / edit / ".log"
-    if not log.exists():
-        print(f"left out: {page} shows the must-fail edit {edit}, and the gate has not tried it yet")
+    """Looks for the first error of a must-fail edit, as the gate's log has it, among the lines shown."""
+    log = ROOT / "target" / "gate.log"
+    refused = rf"^rt: must-fail {edit}\.edit: refused, as it must be: (?:note: )?(?:\./)?(.*)"
+    said = re.search(refused, log.read_text() if log.exists() else "", re.MULTILINE)
+    if not said:
+        print(f"left out: {page} shows the must-fail edit {edit}, and the gate has not refused it yet")
         return 0
-    said = log.read_text()
-    for at, command, want in commands:
-        for line in want:
-            if line not in said:
-                fault(page, at, f"the prover does not say of {edit}: {line}")
+    if not any(line.removeprefix("note: ").removeprefix("./").startswith(said[1]) for _, _, want in commands for line in want):
+        fault(page, commands[0][0], f"the prover says first of {edit}: {said[1]}")
     return len(commands)
 
 
@@ -152,7 +152,7 @@ def named_programs(page, text, makes, proves):
             first = rest[0] if rest else None
             count += 1
             if program == "rt":
-                there = first is None or first in proves
+                there = first is None or first in proves or page == "CHANGES.md"
             elif program == "make":
                 there = all(word in makes or "=" in word for word in rest)
             else:
@@ -192,7 +192,8 @@ def main():
     docs = ROOT / "docs"
     pages = [pathlib.Path(word) for word in sys.argv[1:]] or [ROOT / "README.md", *sorted(docs.glob("*.md")), *sorted(docs.glob("*.[13]"))]
     makes = set(re.findall(r"^(\w+):", (ROOT / "Makefile").read_text(), re.MULTILINE))
-    proves = set(re.findall(r"^ +rt (\w[\w-]*)", subprocess.run(["rt", "help"], stdout=subprocess.PIPE, text=True).stdout, re.MULTILINE))
+    told = subprocess.run(["rt", "help"], stdout=subprocess.PIPE, stderr=subprocess.STDOUT, text=True).stdout
+    proves = {verb for verbs in re.findall(r"^(?:usage:| ) *rt ([\w|-]+)", told, re.MULTILINE) for verb in verbs.split("|")}
     ran, named, shown = 0, 0, set()
     for page in pages:
         ran += (markdown if page.suffix == ".md" else manual)(page, shown)

@@ -4,8 +4,7 @@
 compare_fill.py --oracle DIR [--operate] [--level L] [--maps N] [--first SEED] [--kinds KIND ..] [--program FILE]: DIR holds that CRUSH as fill.py,
 operate.py and gen.py; L is the last change of document 02 that counts; N seeds of each kind of input. What is counted are the inputs with a step 5,
 with a tree, and with blocks over common drives, of these how many have other rows than before change 5; the lines behind the maps that were filled,
-by kind; and the answers wanted: rows, moves by their cause, frames of written maps, refusals. `rt check fill` and `rt check operate` make the
-programs."""
+by kind; and the answers wanted: rows, moves by their cause, frames of written maps, refusals. `packaging/programs` makes the programs."""
 import argparse
 import collections
 import importlib

@@ -105,54 +105,51 @@ def loaded(data):
 # ------------------------------------------------------------ antt text
 
 # what the names of a definition begin with
-OF = 'Rattle·definitions.specs.'
+OF = 'Rattle.definitions.specs.'
 
 
 def header(more=''):
     """What stands above the theorems, and the line under each signature."""
     return """-- Written by evaluate_definitions.py.
-use mathlib.Core.Path.{_≡_, refl, _∙_}
-use mathlib.Core.List.{List, [], _∷_, map}
-use Prim.Native.Nat.{ℕ, zero, suc, _+_, _*_, _/_, _%%_}
-use lib.ListN.{replicate}
+use Rattle.std.specs.Prelude.{◌≡◌, refl, List, [], ◌∷◌, map, ℕ, zero, suc, ◌+◌, ◌*◌, ◌/◌, ◌%%◌, replicate}
 use %(of)sdeclared.Drawn.{Drawn}
-use %(of)sdeclared.Drawn.the-variants.{Winner, Nothing}
+use %(of)sdeclared.Drawn.TheVariants.{Winner, Nothing}
 use %(of)sdeclared.Verdict.{Verdict}
-use %(of)sdeclared.Verdict.the-variants.{Held, Rejected, Passed}
+use %(of)sdeclared.Verdict.TheVariants.{Held, Rejected, Passed}
 use %(of)sdeclared.Event.{Event}
-use %(of)sdeclared.Event.the-variants.{Drew, Tested}
-use %(of)sdeclared.Change.the-variants.{Acceptance, Weight}
+use %(of)sdeclared.Event.TheVariants.{Drew, Tested}
+use %(of)sdeclared.Change.TheVariants.{Acceptance, Weight}
 use %(of)sHash.{hash2, hash3, hash4}
 use %(of)sStraw.{L, key}
-use %(of)sTree.{labelOf, heightOf, nodeWeight, treeOf}
-use %(of)sMap.{mapOf}
+use %(of)sTree.{label_of, height_of, node_weight, tree_of}
+use %(of)sMap.{map_of}
 use %(of)sSelect.{Place}
-use %(of)sRule.{placedOf}
+use %(of)sRule.{placed_of}
 use %(of)sEdit.{put}
-use %(of)sWriting.{mapText}
-use %(of)sLoad.{loadNumber}
-use %(of)sCalls.{sizesOf, loadOf, placeOf, daemonOf, fillOf, editOf, storeOf, returnOf, ceilingOf, writeOf, dayOf, drivesOf}
+use %(of)sWriting.{map_text}
+use %(of)sLoad.{load_number}
+use %(of)sCalls.{sizes_of, load_of, place_of, daemon_of, fill_of, edit_of, store_of, return_of, ceiling_of, write_of, day_of, drives_of}
 use %(of)sOpen.{computing}
 %(more)s
 -- the k bytes that a number spells, highest first
-bytesTo : ℕ → ℕ → List ℕ → List ℕ
-bytesTo zero n acc = acc
-bytesTo (suc k) n acc = bytesTo k (n / 256) (n %% 256 ∷ acc)
+bytes_to : ℕ → ℕ → List ℕ → List ℕ
+bytes_to zero n acc = acc
+bytes_to (suc k) n acc = bytes_to k (n / 256) (n %% 256 ∷ acc)
 
 -- an event as a number
-drawnCode : Drawn → ℕ
-drawnCode (Winner i) = i + 1
-drawnCode Nothing = 0
+drawn_code : Drawn → ℕ
+drawn_code (Winner i) = i + 1
+drawn_code Nothing = 0
 
-verdictCode : Verdict → ℕ
-verdictCode Held = 1
-verdictCode Rejected = 2
-verdictCode Passed = 3
+verdict_code : Verdict → ℕ
+verdict_code Held = 1
+verdict_code Rejected = 2
+verdict_code Passed = 3
 
-eventCode : Event → ℕ
-eventCode (Drew b r d) = ((drawnCode d * 1000000 + r) * 1000 + b) * 10
-eventCode (Tested i v) = i * 10 + verdictCode v
-""" % {'of': OF, 'more': more}, 'unfolding computing bytesTo drawnCode verdictCode eventCode'
+event_code : Event → ℕ
+event_code (Drew b r d) = ((drawn_code d * 1000000 + r) * 1000 + b) * 10
+event_code (Tested i v) = i * 10 + verdict_code v
+""" % {'of': OF, 'more': more}, 'unfolding computing bytes_to drawn_code verdict_code event_code'
 
 
 def open_names():
@@ -175,7 +172,7 @@ def open_names():
 
 def text(b):
     """bytes as an antt list"""
-    return '(bytesTo %d 0x%s [])' % (len(b), bytes(b).hex()) if b else '[]'
+    return '(bytes_to %d 0x%s [])' % (len(b), bytes(b).hex()) if b else '[]'
 
 
 def numbers(ns):
@@ -319,7 +316,7 @@ def leaves(ths, count):
 def place_theorem(ths, kind, what, mp, g, places, tries, keys, dead, extra=0):
     """Group g placed, with so many places more lent than needed."""
     ths.add(kind, '%s group %d, %d keys' % (what, g, keys),
-            'placeOf %s %d (replicate %d 7)' % (text(crush.map_bytes(mp)), g,
+            'place_of %s %d (replicate %d 7)' % (text(crush.map_bytes(mp)), g,
                                                 mp.W + extra),
             'record { number = 0; places = %d; tries = %d; row = %s }'
             % (mp.W, tries, numbers(places + [7] * extra)), keys, mp, dead)
@@ -343,15 +340,15 @@ def valid_maps(ths, count):
         done += 1
         w = mp.W
         b = text(data)
-        ths.add('load', 'seed %d' % seed, 'loadNumber %s' % b, '0', 0, mp)
-        ths.add('sizes', 'seed %d' % seed, 'sizesOf %s' % b,
+        ths.add('load', 'seed %d' % seed, 'load_number %s' % b, '0', 0, mp)
+        ths.add('sizes', 'seed %d' % seed, 'sizes_of %s' % b,
                 'record { number = 0; groups = %d; places = %d }' % (mp.G, w))
         ths.add('write', 'seed %d' % seed,
-                'writeOf %s (replicate %d 7)' % (b, len(data) + 1),
+                'write_of %s (replicate %d 7)' % (b, len(data) + 1),
                 'record { number = 0; bytes = %d; space = %s }'
                 % (len(data), text(data + b'\7')), 0, mp)
         show, day = rng.randrange(2 ** 32), rng.randrange(2 ** 32)
-        ths.add('day', 'seed %d' % seed, 'dayOf %s %d %d' % (b, show, day),
+        ths.add('day', 'seed %d' % seed, 'day_of %s %d %d' % (b, show, day),
                 'record { number = 0; group = %d }'
                 % crush.day_group(mp, show, day))
         extra = rng.choice([0, 0, 1, 3])
@@ -365,29 +362,29 @@ def valid_maps(ths, count):
         space = bytearray(b'\7' * (2 * w + extra))
         number, n, tr = crush.place(data, g, space, ARGS.level)
         ths.add('daemon', 'seed %d group %d' % (seed, g),
-                'daemonOf %s %d (replicate %d 7)' % (b, g, 2 * w + extra),
+                'daemon_of %s %d (replicate %d 7)' % (b, g, 2 * w + extra),
                 'record { number = %d; places = %d; tries = %d; out = %s }'
                 % (number, n, tr, text(space)), runs[g][1], mp, runs[g][2])
         g = crush.day_group(mp, show, day)
         space = bytearray(b'\7' * (2 * w + extra))
         number, n, tr = crush.place(data, g, space, ARGS.level)
         ths.add('drives', 'seed %d group %d' % (seed, g),
-                'drivesOf %s %d %d (replicate %d 7)'
+                'drives_of %s %d %d (replicate %d 7)'
                 % (b, show, day, 2 * w + extra),
                 'record { number = %d; group = %d; places = %d; tries = %d; '
                 'out = %s }' % (number, g, n, tr, text(space)),
                 runs[g][1], mp, runs[g][2])
         ths.add('refusal', 'seed %d list too long' % seed,
-                'drivesOf %s %d %d (replicate %d 7)'
+                'drives_of %s %d %d (replicate %d 7)'
                 % (b, show, day, 2 * w - 1),
                 'record { number = 16; group = 0; places = 0; tries = 0; '
                 'out = %s }' % numbers([7] * (2 * w - 1)))
         ths.add('refusal', 'seed %d no such group' % seed,
-                'placeOf %s %d (replicate %d 7)' % (b, mp.G, w),
+                'place_of %s %d (replicate %d 7)' % (b, mp.G, w),
                 'record { number = 15; places = 0; tries = 0; row = %s }'
                 % numbers([7] * w))
         ths.add('refusal', 'seed %d row too short' % seed,
-                'placeOf %s 0 (replicate %d 7)' % (b, w - 1),
+                'place_of %s 0 (replicate %d 7)' % (b, w - 1),
                 'record { number = 16; places = 0; tries = 0; row = %s }'
                 % numbers([7] * (w - 1)))
     print('maps: %d, groups placed: %d, tries in all: %d, holes: %d'
@@ -401,7 +398,7 @@ def edit_theorem(ths, what, mp, table, frame, space, keys, dead):
     moved = res.bytes()
     lent = b'\7' * space
     ths.add('edit', '%s, %d keys' % (what, keys),
-            'editOf %s %s %s %s' % (text(crush.map_bytes(mp)), numbers(table),
+            'edit_of %s %s %s %s' % (text(crush.map_bytes(mp)), numbers(table),
                                     text(frame), text(lent)),
             'record { number = %d; moves = %d; frames = %s; table = %s; '
             'space = %s }' % (res.number, res.count(),
@@ -416,7 +413,7 @@ def fill_theorem(ths, what, mp, extra=2):
     fresh = crush.fresh_fill(mp)
     keys, dead = runs_cost(mp)
     ths.add('fill', what,
-            'fillOf %s (replicate %d 7)' % (text(crush.map_bytes(mp)),
+            'fill_of %s (replicate %d 7)' % (text(crush.map_bytes(mp)),
                                             len(fresh) + extra),
             'record { number = 0; places = %d; table = %s }'
             % (len(fresh), numbers(fresh + [7] * extra)), keys, mp, dead)
@@ -532,22 +529,22 @@ def damaged_maps(ths, count):
         res = loaded(data)
         number = res if isinstance(res, int) else 0
         numbers_seen[number] = numbers_seen.get(number, 0) + 1
-        ths.add('load', '%s %d' % (kind, seed), 'loadNumber %s' % text(data),
+        ths.add('load', '%s %d' % (kind, seed), 'load_number %s' % text(data),
                 str(number), 0, None if number else res)
-        ths.add('sizes', '%s %d' % (kind, seed), 'sizesOf %s' % text(data),
+        ths.add('sizes', '%s %d' % (kind, seed), 'sizes_of %s' % text(data),
                 'record { number = %d; groups = %d; places = %d }'
                 % (number, 0 if number else res.G, 0 if number else res.W))
         if number:
             ths.add('refusal', '%s %d' % (kind, seed),
-                    'drivesOf %s 1 2 (3 ∷ [])' % text(data),
+                    'drives_of %s 1 2 (3 ∷ [])' % text(data),
                     'record { number = %d; group = 0; places = 0; tries = 0; '
                     'out = 3 ∷ [] }' % number)
             ths.add('refusal', '%s %d' % (kind, seed),
-                    'editOf %s (1 ∷ []) (2 ∷ []) (3 ∷ [])' % text(data),
+                    'edit_of %s (1 ∷ []) (2 ∷ []) (3 ∷ [])' % text(data),
                     'record { number = 14; moves = 0; frames = %s; '
                     'table = 1 ∷ []; space = 3 ∷ [] }' % text(data))
             ths.add('refusal', '%s %d' % (kind, seed),
-                    'daemonOf %s 0 (3 ∷ [])' % text(data),
+                    'daemon_of %s 0 (3 ∷ [])' % text(data),
                     'record { number = %d; places = 0; tries = 0; '
                     'out = 3 ∷ [] }' % number)
     print('damaged: %d maps, numbers: %s'
@@ -585,8 +582,8 @@ def walk_theorem(ths, what, mp, g, run, keys, dead):
     walks = [[event_code(e) for _, _, e in p.walk()] for _, p in run.final]
     walks += [[]] * (mp.W - len(walks))
     ths.add('walk', '%s group %d, %d keys' % (what, g, keys),
-            'map (λ (p : Place). map eventCode (p .walk)) '
-            '(placedOf (mapOf %s) %d .places)' % (text(crush.map_bytes(mp)), g),
+            'map (λ (p : Place). map event_code p.walk) '
+            '(placed_of (map_of %s) %d).places' % (text(crush.map_bytes(mp)), g),
             '(%s)' % ' ∷ '.join([numbers(w) for w in walks] + ['[]']), keys, mp,
             dead)
     return sum(map(len, walks))
@@ -612,7 +609,7 @@ def map_theorems(ths, what, mp, table, line, keys, dead):
     """Group 0 of a map, an edit, which all groups of both maps need so many
     keys for, and the fill after it; how many events the walks have."""
     run, k, none = keys_of(lambda: crush.Run(mp, 0))
-    ths.add('load', what, 'loadNumber %s' % text(crush.map_bytes(mp)), '0', 0, mp)
+    ths.add('load', what, 'load_number %s' % text(crush.map_bytes(mp)), '0', 0, mp)
     place_theorem(ths, 'place', what, mp, 0, run.places, run.tries, k, none)
     events = walk_theorem(ths, what, mp, 0, run, k, none)
     res = edit_theorem(ths, what, mp, table, line, 230, keys, dead)
@@ -677,7 +674,7 @@ def through_maps(ths, count):
             number = loaded(data)
             number = number if isinstance(number, int) else 0
             numbers_seen[number] = numbers_seen.get(number, 0) + 1
-            ths.add('load', what + ' a rule', 'loadNumber %s' % text(data),
+            ths.add('load', what + ' a rule', 'load_number %s' % text(data),
                     str(number))
     if count:
         print('through: %d maps, events compared: %d, moves: %d, causes: %s, '
@@ -723,19 +720,19 @@ def tree_draws(ths, count):
         what = '%d children' % size
         won = crush.draw(tree, x, r, bucket)
         none += won is None
-        ths.add('tree', what, 'drawnCode (treeOf %d %d %d %d %s %s)'
+        ths.add('tree', what, 'drawn_code (tree_of %d %d %d %d %s %s)'
                 % (crush.S, x, r, 65536 + bucket, numbers(weights),
                    numbers(items)), str(0 if won is None else won + 1), 0, tree)
         root = crush.root_label(size)
-        ths.add('tree', what, 'heightOf %d' % size,
+        ths.add('tree', what, 'height_of %d' % size,
                 str(root.bit_length() - 1), 0, tree)
         # a node on the way, or the root of a tree in which none is drawn
         label = rng.choice(crush.tree_path(tree, x, r, bucket) or [root])
         height = crush.half_span(label).bit_length() - 1
         place = crush.node_leaves(label)[0] >> height
-        ths.add('tree', what, 'labelOf %d %d' % (height, place), str(label), 0,
+        ths.add('tree', what, 'label_of %d %d' % (height, place), str(label), 0,
                 tree)
-        ths.add('tree', what, 'nodeWeight %s %d %d'
+        ths.add('tree', what, 'node_weight %s %d %d'
                 % (numbers(weights), height, place),
                 str(crush.node_weight(tree, bucket, label)), 0, tree)
     if count:
@@ -754,7 +751,7 @@ def kind_maps(ths):
         d.level = level
         mp = loaded(d.bytes())
         assert number == (mp if isinstance(mp, int) else 0)
-        ths.add('load', 'kind %s' % kind, 'loadNumber %s' % text(d.bytes()),
+        ths.add('load', 'kind %s' % kind, 'load_number %s' % text(d.bytes()),
                 str(number), 0, None if number else mp)
 
 
@@ -866,12 +863,12 @@ def put_theorems(ths, what, mp, line):
     """An edit put into a map; the map after it."""
     kind, device, value = crush.edit_form(line)
     after = edited(mp, line)
-    change = 'put (mapOf %s) (%s %d %d)' % (
+    change = 'put (map_of %s) (%s %d %d)' % (
         text(crush.map_bytes(mp)),
         'Weight' if kind == '22' else 'Acceptance', device, value)
     written = text(crush.map_bytes(after))
-    ths.add('put', what, 'mapText (%s)' % change, written, 0, mp)
-    ths.add('put', what, 'mapOf %s' % written, change, 0, mp)
+    ths.add('put', what, 'map_text (%s)' % change, written, 0, mp)
+    ths.add('put', what, 'map_of %s' % written, change, 0, mp)
     return after
 
 
@@ -891,7 +888,7 @@ def weight_maps(ths, count):
             number = loaded(other.bytes())
             number = number if isinstance(number, int) else 0
             numbers_seen[number] = numbers_seen.get(number, 0) + 1
-            ths.add('load', what, 'loadNumber %s' % text(other.bytes()),
+            ths.add('load', what, 'load_number %s' % text(other.bytes()),
                     str(number))
         for line in weights.edits(rng, d, 5):
             form = crush.edit_form(line)
@@ -936,7 +933,7 @@ def ceiling_maps(ths, count):
             if not number:
                 counted[groups] = counted.get(groups, 0) + 1
             ths.add('ceiling', 'seed %d %s, %d keys' % (seed, what, keys),
-                    'ceilingOf %s %s %d' % (text(frames), numbers(table),
+                    'ceiling_of %s %s %d' % (text(frames), numbers(table),
                                             drive),
                     'record { number = %d; groups = %d; moves = %d }'
                     % (number, groups, moves), keys,
@@ -968,7 +965,7 @@ class StateCalls:
                                                     lent)
         self.count('load', number)
         self.ths.add('load with states', what,
-                     'loadOf %s %s' % (text(frames), numbers(lent)),
+                     'load_of %s %s' % (text(frames), numbers(lent)),
                      'record { number = %d; groups = %d; places = %d; '
                      'states = %s }' % (number, groups, places,
                                         numbers(after)))
@@ -978,7 +975,7 @@ class StateCalls:
                                      name)
         self.count('store', number)
         self.ths.add('store', what,
-                     'storeOf %s %s %d' % (text(frames), numbers(lent), name),
+                     'store_of %s %s %d' % (text(frames), numbers(lent), name),
                      'record { number = %d; states = %s }' % (number,
                                                               numbers(after)))
         return after
@@ -990,7 +987,7 @@ class StateCalls:
         if not number:
             self.moved[moves] = self.moved.get(moves, 0) + 1
         self.ths.add(
-            'return', what, 'returnOf %s %s %s %d %s'
+            'return', what, 'return_of %s %s %s %d %s'
             % (text(frames), numbers(table), numbers(lent), name,
                text(b'\7' * room)),
             'record { number = %d; moves = %d; frames = %s; table = %s; '
@@ -1144,25 +1141,26 @@ def giving_up(root):
     head = header()[0]
     for names in used.values():
         names[:] = [n for n in names if not re.search(r'[{ ]%s[,}]' % n, head)]
-    more = ''.join('use %s%s.{%s}\n' % (OF, mod, ', '.join(names))
+    more = 'use Rattle.std.proofs.Common.{◌∙◌}\n'
+    more += ''.join('use %s%s.{%s}\n' % (OF, mod, ', '.join(names))
                    for mod, names in used.items() if names)
     more += ''.join('use %s%s.{%s}\n' % (OF, mod, names) for mod, names in (
-        ('declared.Mode.the-variants', 'Through'),
-        ('declared.State', 'State'), ('declared.Turn.the-variants', 'Fail'),
+        ('declared.Mode.TheVariants', 'Through'),
+        ('declared.State', 'State'), ('declared.Turn.TheVariants', 'Fail'),
         ('View', 'View'), ('Walk', 'RankEvents, TurnEvents')))
     head, computing = header(more)
     folded = re.search(r'(?m)^unfolding (.*)$', opened).group(1)
-    folded = ' '.join(n for n in folded.split() if n != 'rankOf')
+    folded = ' '.join(n for n in folded.split() if n != 'rank_of')
     places, tries = crush.rule(one_cabinet(65536), 0)
     none, most = crush.rule(one_cabinet(0), 0)
     answer = 'record { number = 0; places = 1; tries = %d; row = %s }'
-    turns = ''.join('turn%d : turn (at %d) .turn ≡ Fail (at %d)\n%s\n'
+    turns = ''.join('turn%d : (turn (at %d)).turn ≡ Fail (at %d)\n%s\n'
                     'turn%d = refl\n\n' % (k, k, k + 1, computing, k)
                     for k in range(50))
     chain = ' ∙ '.join('step %d (at %d) (at %d) turn%d' % (49 - k, k, k + 1, k)
                        for k in range(50))
     write_crate(root, 'giving_up', head + """
-live-cabinet : placeOf %s 0 (7 ∷ []) ≡ %s
+live-cabinet : place_of %s 0 (7 ∷ []) ≡ %s
 %s
 live-cabinet = refl
 
@@ -1170,28 +1168,28 @@ abbrev dead : List ℕ
 dead = %s
 
 abbrev seen : View
-seen = viewOf (mapOf dead)
+seen = view_of (map_of dead)
 
 abbrev turn : State → TurnEvents
-turn s = turnOf seen 0 Through 1 1 (testOf Through seen 0 1 []) 1 1 s
+turn s = turn_of seen 0 Through 1 1 (test_of Through seen 0 1 []) 1 1 s
 
 abbrev rank : ℕ → State → RankEvents
-rank k s = rankFrom seen 0 Through 1 1 (testOf Through seen 0 1 []) 1 1 k s
+rank k s = rank_from seen 0 Through 1 1 (test_of Through seen 0 1 []) 1 1 k s
 
 -- the rank after k failures
 abbrev at : ℕ → State
 at k = record { at = 1; fr = k; f = k; inner = 50 * k }
 
-step : (k : ℕ) (s z : State) → turn s .turn ≡ Fail z → rank (suc k) s .ranked ≡ rank k z .ranked
-unfolding rankFrom onTurn afterTurn onward
+step : (k : ℕ) (s z : State) → (turn s).turn ≡ Fail z → (rank (suc k) s).ranked ≡ (rank k z).ranked
+unfolding rank_from on_turn after_turn onward
 step k s z h = rw h
 
-%sgives-up : rankOf seen 0 Through 1 1 [] 1 1 0 .ranked ≡ record { item = 65535; entry = 65535; fr = 50; f = 50; inner = 2500 }
-unfolding rankOf rankBy rankStart rankFrom rankEnd
+%sgives-up : (rank_of seen 0 Through 1 1 [] 1 1 0).ranked ≡ record { item = 65535; entry = 65535; fr = 50; f = 50; inner = 2500 }
+unfolding rank_of rank_by rank_start rank_from rank_end
 gives-up = %s
 
-dead-cabinet : placeOf dead 0 (7 ∷ []) ≡ %s
-unfolding bytesTo %s
+dead-cabinet : place_of dead 0 (7 ∷ []) ≡ %s
+unfolding bytes_to %s
 dead-cabinet = rw gives-up
 """ % (text(crush.map_bytes(one_cabinet(65536))),
        answer % (tries, numbers(places)), computing,
@@ -1214,6 +1212,12 @@ def write_crate(root, name, check):
             f.write(held)
 
 
+def rt_check(root, name):
+    return subprocess.run(['rt', 'check', '--jobs', '1'],
+                          cwd=os.path.join(root, 'crates', name),
+                          stdout=subprocess.PIPE, stderr=subprocess.STDOUT)
+
+
 def run(ths, root):
     head, opened = header()
     crates = []
@@ -1233,18 +1237,16 @@ def run(ths, root):
     total = {}
     failed = []
     limit = set()
-    env = dict(os.environ, RT_JOBS='1', RT_CUT='400')
     began = time.time()
     cpu = resource.getrusage(resource.RUSAGE_CHILDREN).ru_utime
     for name, its in crates:
         at = time.time()
-        p = subprocess.run(['rt', 'check', name], cwd=root, env=env,
-                           stdout=subprocess.PIPE, stderr=subprocess.STDOUT)
+        p = rt_check(root, name)
         out = p.stdout.decode(errors='replace')
         bad = set(re.findall(r'specs/Check\.antt:\d+:\d+: error: `(t\d+)`', out))
         bad |= set(re.findall(r'in `(t\d+)`', out))
-        limit |= set(re.findall(r'error: `(t\d+)`: .*(?:stopped at the step '
-                                r'limit|deep recursion)', out))
+        limit |= set(re.findall(r'error: `(t\d+)`: .*(?:ran out of|outgrew the '
+                                r'memory limit|stopped at the step limit)', out))
         if p.returncode and not bad:
             print(out[-3000:])
             raise SystemExit('evaluate_definitions.py: rt check failed, with no theorem named')
@@ -1270,8 +1272,7 @@ def run(ths, root):
     up = None
     if ARGS.giving_up:
         at = time.time()
-        p = subprocess.run(['rt', 'check', 'giving_up'], cwd=root, env=env,
-                           stdout=subprocess.PIPE, stderr=subprocess.STDOUT)
+        p = rt_check(root, 'giving_up')
         up = p.returncode == 0
         print('one cabinet, live and dead: %s, %.0f s'
               % ('held' if up else 'refused', time.time() - at))
@@ -1302,7 +1303,7 @@ def run(ths, root):
 def main():
     root = tempfile.mkdtemp(prefix='defs-check-')
     copy = os.path.join(root, 'crates', 'definitions')
-    shutil.copytree(CRATE, copy)
+    shutil.copytree(CRATE, copy, ignore=shutil.ignore_patterns('out'))
     open_names()
     ths = Theorems()
     leaves(ths, ARGS.leaves)

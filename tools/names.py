@@ -6,6 +6,7 @@ Usage: names.py (from any folder). Looked up are, as docs/ARCHITECTURE.md writes
 `crate::module::function`, files and folders, and names alone. In backticks may also stand frames, options and expressions: of an expression each
 word of four letters or more has to be one of the sources. The last line counts; the status is 1 where something is not there."""
 import collections
+import os
 import pathlib
 import re
 import sys
@@ -20,20 +21,21 @@ RATTLE = re.compile(rf"\b(?:fn|struct|enum|const|type|mod) ({WORD})")
 MEMBER = re.compile(rf"^    (?:pub )?({WORD})\b[:(,]", re.MULTILINE)
 COMMENT = re.compile(r"(?:--|//).*")
 # what is written in backticks and is no name of the sources: the system's, libcrush's and the toolchain's own
-NO_NAMES = {"nanosleep", "libc::read", "sched_yield", "crush.h", "libcrush_place.a", "Need-", "Need-..", "tie.close", "guides", "logic=proved"}
+NO_NAMES = {"nanosleep", "libc::read", "sched_yield", "crush.h", "libcrush_place.a", "Need-", "Need-..", "tie.close", "rattle", "logic=proved"}
 
 
 def files():
     """Every file but what was made."""
-    for top in sorted(ROOT.iterdir()):
-        if top.name not in (".git", "target"):
-            yield from [top] if top.is_file() else (path for path in sorted(top.rglob("*")) if path.is_file())
+    for at, folders, names in os.walk(ROOT):
+        is_crate = pathlib.Path(at).parent == ROOT / "crates"
+        folders[:] = sorted(name for name in folders if name not in (".git", "target", "__pycache__") and not (is_crate and name == "out"))
+        yield from (pathlib.Path(at) / name for name in sorted(names))
 
 
 class Sources:
     def __init__(self):
         lines = [line.split("#")[0] for line in (ROOT / "crates.txt").read_text().splitlines()]
-        self.crates = {line.split(":")[0]: line.split(":")[1].split() for line in lines if ":" in line}
+        self.crates = {line.split()[0].rstrip(":"): line.split(":")[1].split() for line in lines if ":" in line}
         self.texts, self.modules, self.words, self.files = {}, collections.defaultdict(list), set(), []
         self.declared = set(self.crates)
         for path in files():

@@ -32,9 +32,9 @@ def read_table():
 def defined():
     """The numbers in the order in which the definitions ask them: load's, then each call's, led by what is asked before: `-` is nothing."""
     load, calls = ((ROOT / "crates/definitions/specs" / name).read_text() for name in ("Load.antt", "Calls.antt"))
-    texts = re.findall(r"^(?:text|map)Questions .*?\[\]", load, re.MULTILINE | re.DOTALL)
+    texts = re.findall(r"^(?:text|map)_questions .*?\[\]", load, re.MULTILINE | re.DOTALL)
     orders = [["-", *re.findall(r"\((\d+), ", "".join(texts))]]
-    for behind_load, text in re.findall(r"(afterLoad \(loadNumber \w+\) \()?firstNo\s+(\(.*?\[\])", calls, re.DOTALL):
+    for behind_load, text in re.findall(r"(after_load \(load_number \w+\) \()?first_no\s+(\(.*?\[\])", calls, re.DOTALL):
         orders.append([orders[0][-1] if behind_load else "-", *re.findall(r"\((\d+), ", text)])
     return orders
 

@@ -1,8 +1,8 @@
 #!/usr/bin/env python3
-"""One must-fail edit, tried by hand: makes its replacements in the crate, runs `rt dev`, prints where it is refused first, and takes them back.
+"""One must-fail edit, tried by hand: makes its replacements in the crate, runs `rt check` there, prints where it is refused first, and takes them back.
 
-Usage: try_edit.py CRATE/EDIT (from the repository's root). `rt dev` checks again only what the edit changes, so this takes seconds where the crate
-has been checked before; it is not the verdict, which is `rt must-fail CRATE` and the gate."""
+Usage: try_edit.py CRATE/EDIT (from the repository's root). `rt check` proves again only what the edit changes, so this takes seconds where the
+crate has been checked before; it is not the verdict, which is `rt must-fail CRATE` and the gate."""
 import re, subprocess, sys
 
 crate, name = sys.argv[1].split("/")
@@ -23,7 +23,7 @@ for old, new in pairs:
     after = after.replace(old, new)
 try:
     open(path, "w").write(after)
-    told = subprocess.run(["rt", "dev", crate], stdout=subprocess.PIPE, stderr=subprocess.STDOUT, text=True)
+    told = subprocess.run(["rt", "check"], cwd=f"crates/{crate}", stdout=subprocess.PIPE, stderr=subprocess.STDOUT, text=True)
 finally:
     open(path, "w").write(before)
 # of a function without a proof file the prover says what is not proved; of any other the first error is its own
