@@ -111,9 +111,7 @@ OF = 'Rattle.definitions.specs.'
 def header(more=''):
     """What stands above the theorems, and the line under each signature."""
     return """-- Written by evaluate_definitions.py.
-use Rattle.std.specs.Prelude.{◌≡◌, refl, List, [], ◌∷◌, map, ℕ, zero, suc, ◌+◌, ◌*◌, ◌/◌, ◌%%◌, replicate}
-use %(of)sdeclared.Drawn.{Drawn}
-use %(of)sdeclared.Drawn.TheVariants.{Winner, Nothing}
+use Rattle.std.specs.Prelude.{◌≡◌, refl, List, [], ◌∷◌, map, ℕ, zero, suc, ◌+◌, ◌*◌, ◌/◌, ◌%%◌, replicate, Option, None, Some}
 use %(of)sdeclared.Verdict.{Verdict}
 use %(of)sdeclared.Verdict.TheVariants.{Held, Rejected, Passed}
 use %(of)sdeclared.Event.{Event}
@@ -137,9 +135,9 @@ bytes_to zero n acc = acc
 bytes_to (suc k) n acc = bytes_to k (n / 256) (n %% 256 ∷ acc)
 
 -- an event as a number
-drawn_code : Drawn → ℕ
-drawn_code (Winner i) = i + 1
-drawn_code Nothing = 0
+drawn_code : Option ℕ → ℕ
+drawn_code (Some i) = i + 1
+drawn_code None = 0
 
 verdict_code : Verdict → ℕ
 verdict_code Held = 1
@@ -863,7 +861,7 @@ def put_theorems(ths, what, mp, line):
     """An edit put into a map; the map after it."""
     kind, device, value = crush.edit_form(line)
     after = edited(mp, line)
-    change = 'put (map_of %s) (%s %d %d)' % (
+    change = 'put (map_of %s) (Some (%s %d %d))' % (
         text(crush.map_bytes(mp)),
         'Weight' if kind == '22' else 'Acceptance', device, value)
     written = text(crush.map_bytes(after))

@@ -2,7 +2,6 @@
 #![tactic(auto)]
 
 pub mod actions;
-pub mod each;
 pub mod independent;
 pub mod standing;
 pub mod typed;

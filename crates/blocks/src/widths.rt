@@ -1,17 +1,15 @@
 // The width W, and question 12: "W at most 16 a block, 32 in all?"
 ghost use Rattle.std.specs.Prelude.{◌≡◌, true, ◌≤◌, length};
-ghost use Rattle.definitions.specs.Frames.{frames_in};
 ghost use Rattle.definitions.specs.Map.{map_of};
 ghost use Rattle.definitions.specs.Rule.{width_of};
 ghost use Rattle.definitions.specs.Load.{ranged, slim};
-ghost use Rattle.text.specs.Shape.{shape_of};
-ghost use Rattle.text.specs.RoundTrip.{Framed};
 ghost use Rattle.blocks.specs.Actions.{ActionRanged};
 ghost use Rattle.blocks.specs.Widths.{grown, emitted, widened, Whole};
 
 use crate::actions;
-use definitions::Action;
-use text::Shape;
+use definitions::{Action, Step};
+use frames::records::Record;
+use text::Text;
 
 // The product in the block so far, and the sum over the blocks emitted.
 #[derive(Clone, Copy)]
@@ -21,6 +19,7 @@ pub struct Tally {
 }
 
 // A product above 16 stands still, so that it never overflows: it would only grow, and its block is too wide as it is.
+#[tactic(auto, unfolding(crate::specs::Widths::grown))]
 fn grown(p: u32, n: u32) -> u32
     requires { n ≤ 16 }
     ensures { result ≡ grown p n }
@@ -43,59 +42,51 @@ fn emitted(p: u32) -> u32
 }
 
 // One action more. Sixteen actions add 33 each at most, so the sum never overflows.
+#[tactic(auto, unfolding(crate::specs::Widths::widened))]
 fn widened(w: Tally, a: Action) -> Tally
     requires { (w.whole ≤ 528) × ActionRanged a }
     ensures { result ≡ widened w a }
 {
     match a {
-        Action::Take(_) => Tally {
-            block: 1,
-            whole: w.whole,
-        },
+        Action::Take(_) => Tally { block: 1, ..w },
         Action::Select(_, n, _) => Tally {
             block: grown(w.block, n),
-            whole: w.whole,
+            ..w
         },
-        Action::Emit => {
-            let sum = w.whole + emitted(w.block);
-            Tally {
-                block: w.block,
-                whole: sum,
-            }
-        }
+        Action::Emit => Tally {
+            whole: w.whole + emitted(w.block),
+            ..w
+        },
         Action::Idle => w,
     }
 }
 
 // W, or more than 32 where the map is not slim.
-fn whole(t: &[u8], s: Shape) -> u32
-    requires framed { Framed t.now × (s ≡ shape_of (frames_in t.now)) × (ranged (map_of t.now) ≡ true) }
+fn whole(t: &Text) -> u32
+    requires ranged { ranged (map_of t.now) ≡ true }
     requires t_len_bound { length (map_of t.now).steps ≤ 16 }
     ensures { Whole (map_of t.now) result }
 {
-    let n = s.steps;
     let mut w = Tally { block: 1, whole: 0 };
-    let mut k: usize = 0;
-    while k < n {
-        w = widened(w, actions::action(t, s, k));
-        k += 1;
+    for k in 0..Step::count(t) {
+        w = widened(w, actions::action(t, k));
     }
     w.whole
 }
 
-pub fn slim(t: &[u8], s: Shape) -> bool
-    requires framed { Framed t.now × (s ≡ shape_of (frames_in t.now)) × (ranged (map_of t.now) ≡ true) }
+pub fn slim(t: &Text) -> bool
+    requires ranged { ranged (map_of t.now) ≡ true }
     requires t_len_bound { length (map_of t.now).steps ≤ 16 }
     ensures { result ≡ slim (map_of t.now) }
 {
-    whole(t, s) <= 32
+    whole(t) <= 32
 }
 
 // W.
-pub fn width(t: &[u8], s: Shape) -> usize
-    requires framed { Framed t.now × (s ≡ shape_of (frames_in t.now)) × (ranged (map_of t.now) ≡ true) }
+pub fn width(t: &Text) -> usize
+    requires ranged { ranged (map_of t.now) ≡ true }
     requires t_len_bound { (length (map_of t.now).steps ≤ 16) × (slim (map_of t.now) ≡ true) }
     ensures { (result ≡ width_of (map_of t.now)) × (result ≤ 32) }
 {
-    whole(t, s) as usize
+    whole(t) as usize
 }

@@ -19,16 +19,16 @@ use Rattle.definitions.specs.Select.{Place, place_under, entries_of, items_of, n
 use Rattle.definitions.specs.Rule.{Run, taken, selected, act, run_to}
 use Rattle.definitions.specs.Edit.{parting, cause_of}
 use Rattle.definitions.specs.Calls.{not_first_n}
-use Rattle.hierarchy.specs.Arrays.{view_in}
+use Rattle.hierarchy.specs.Arrays.{Sound, view_in}
 use Rattle.laws.specs.Lists.{every-at}
 use Rattle.laws.specs.Members.{Each, each_at}
 use Rattle.tracing.specs.Runs.{leaves, rank_under, place_after, select-count, select-place}
-use Rattle.placement.specs.declared.rule.Progress.{Progress}
+use Rattle.placement.specs.declared.progress.Progress.{Progress}
 use Rattle.placement.specs.Bare.{BareRun, bare_run_of, bare_act, act-bare, run-bare}
 use Rattle.placement.specs.Entries.{same_at}
 use Rattle.placement.specs.Working.{Workable}
 use Rattle.placement.specs.Ruled.{Ready}
-use Rattle.placement.specs.Progress.{run_in, Room, Doable, Acted, Ran, ran-more, doable}
+use Rattle.placement.specs.Progress.{run_in, Doable, Acted, Ran, ran-more, doable}
 use Rattle.causes.specs.declared.Both.{Both}
 use Rattle.causes.specs.Told.{Told, told_is, Causes}
 use Rattle.causes.specs.Under.{TellsUnder, TellsTo}
@@ -80,7 +80,7 @@ pub record Beside (s s' : Run) (p : Both) : Type 0 where
 
 -- a run can do action a
 abbrev pub Fit : Progress → Action → Type 0
-Fit q a = Room q × (q.tries ≤ 1000000) × Doable q a
+Fit q a = (q.tries ≤ 1000000) × Doable q a
 
 -- both can, and it leaves holes
 abbrev pub Able : Both → Action → Type 0
@@ -320,11 +320,11 @@ module _ (v v' : View) (x : ℕ) (actions : List Action) where
   reached-causes k p h j l = told_is _ _ _ (h.beside.listed.each j l)
 
 -- where the rule is kept to, the next action can be done in both runs
-pub able : {plan values values' : List ℕ} {actions : List Action} → Ready plan values actions → Ready plan values' actions
+pub able : {plan values values' : List ℕ} {actions : List Action} → Sound plan → Ready plan values actions → Ready plan values' actions
     → every not_first_n actions ≡ true → (x k : ℕ) (p : Both) (a : Action) → k < length actions → k ≤ 16 → a ≡ get_or actions k Idle
     → Reached (view_in plan values) (view_in plan values') x actions k p → Able p a
-able {actions = actions} ready ready' independent x k p a h m e r = (
-  (r.old.room, omega (arith, r.old.tries), doable ready x k p.old a h e r.old),
-  (r.new.room, omega (arith, r.new.tries), doable ready' x k p.new a h e r.new),
+able {actions = actions} sound ready ready' independent x k p a h m e r = (
+  (omega (arith, r.old.tries), doable sound ready x k p.old a h e r.old),
+  (omega (arith, r.new.tries), doable sound ready' x k p.new a h e r.new),
   rw e (every-at not_first_n actions k Idle independent h),
 )

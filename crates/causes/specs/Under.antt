@@ -1,5 +1,8 @@
 -- The cause of a place that a select puts out, from the cause of the place above it. Assumes nothing.
-use Rattle.std.specs.Prelude.{◌≡◌, List, ◌++◌, ℕ, ◌+◌, ◌/◌, ◌%◌, ◌<◌, length, get_or, take, drop, set}
+use Rattle.definitions.specs.declared.Parting.{Parting}
+use Rattle.definitions.specs.declared.Ranked.{Ranked}
+use Rattle.std.specs.Prelude.{◌≡◌, List, ◌++◌, ℕ, ◌+◌, ◌/◌, ◌%◌, ◌<◌, length, get_or, take, drop, set, Result, Ok, Err}
+use Rattle.std.specs.Result.{result_err}
 use Rattle.std.proofs.Math.Path.{refl}
 use Rattle.std.proofs.Common.{sym, ap, ◌∙◌, inr, eq-or-lt_of_le, arith, get_or-set_other}
 use Rattle.std.proofs.Math.Bool.{true, false}
@@ -14,8 +17,6 @@ use Rattle.definitions.specs.Walk.{hole, RankEvents, rank_of}
 use Rattle.definitions.specs.Select.{Place, place_under}
 use Rattle.definitions.specs.Edit.{cause_of}
 use Rattle.tracing.specs.Runs.{rank_under}
-use Rattle.lockstep.specs.declared.Course.{Course}
-use Rattle.lockstep.specs.declared.Course.TheVariants.{Forked, Shared}
 use Rattle.lockstep.specs.Parts.{parts-after}
 use Rattle.lockstep.specs.Lockstep.{Ranks}
 use Rattle.causes.specs.Told.{Told, told_same, told_under}
@@ -33,16 +34,15 @@ TellsTo v v' x mode n t list list' olds news above working k cs =
     (p : ℕ) → p < k
     → TellsUnder v v' x mode n t (list ++ take p olds) (list' ++ take p news) (get_or above (p / n) 0) (get_or working (p / n) 0) (p % n + 1) (get_or cs p 0)
 
--- the cause that follows from two ranks made at once
-abbrev pub course_cause : Course → ℕ
-course_cause (Forked p) = cause_of p
-course_cause (Shared r) = 0
+-- the cause that follows from what two ranks come to
+abbrev pub course_cause : Result Ranked Parting → ℕ
+course_cause k = cause_of (result_err k)
 
 -- two ranks under one place
-ranks-told : (c : Course) (a : Place) (k k' : RankEvents) → Ranks c k k' → Told (course_cause c) (place_under a k) (place_under a k')
-unfolding place_under
-ranks-told (Forked p) a k k' h = inr (p, parts-after a.walk h, refl)
-ranks-told (Shared r) a k k' (e, z) = inl (ap (place_under a) e, refl)
+ranks-told : (c : Result Ranked Parting) (a : Place) (k k' : RankEvents) → Ranks c k k' → Told (course_cause c) (place_under a k) (place_under a k')
+unfolding place_under cause_of
+ranks-told (Err p) a k k' h = inr (p, parts-after a.walk h, refl)
+ranks-told (Ok r) a k k' (e, z) = inl (ap (place_under a) e, refl)
 
 module _ (v v' : View) (x : ℕ) (mode : Mode) (n t : ℕ) where
   -- ---- one place
@@ -63,7 +63,7 @@ module _ (v v' : View) (x : ℕ) (mode : Mode) (n t : ℕ) where
         inl (rw (← s, u) refl, refl)
 
     -- the two ranks under one bucket
-    pub tells-rank : above ≡ 0 → (e ≡ hole → ⊥) → (start : ℕ) (c : Course) → start ≡ bucket_number e
+    pub tells-rank : above ≡ 0 → (e ≡ hole → ⊥) → (start : ℕ) (c : Result Ranked Parting) → start ≡ bucket_number e
         → Ranks c (rank_of v x mode n t held start r 0) (rank_of v' x mode n t held' start r 0) → Tells (course_cause c)
     unfolding TellsUnder rank_under place_under
     tells-rank z h start c g f a b told q =

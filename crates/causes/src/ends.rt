@@ -4,15 +4,15 @@ ghost use Rattle.std.specs.Prelude.{◌≡◌, true, false, ◌<◌, ◌≤◌};
 ghost use Rattle.definitions.specs.declared.Mode.TheVariants.{Through};
 ghost use Rattle.definitions.specs.Lists.{has};
 ghost use Rattle.definitions.specs.Map.{bucket_number};
-ghost use Rattle.hierarchy.specs.Arrays.{view_in, live_in, ItemRange, Sound, Flagged};
+ghost use Rattle.hierarchy.specs.Arrays.{view_in, live_in, ItemRange, Flagged};
 ghost use Rattle.walk.specs.Searches.{SearchBounds, test_at, turn_at, rank_at};
 ghost use Rattle.walk.specs.Bounds.{Going, Testable};
 ghost use Rattle.lockstep.specs.Rounds.{RoundBounds};
 ghost use Rattle.causes.specs.Ends.{TestEnds, TurnEnds, RankEnds};
 
-use definitions::{Drawn, Mode, State, Turn};
+use definitions::{Mode, Ranked, State, Tried, Turn};
 use hierarchy::{Plan, Values};
-use lockstep::{Course, Meeting, Round, Trials, descents, ranks};
+use lockstep::{Together, descents, ranks};
 use walk::Search;
 
 // Is item i, drawn in a select through, not held and dead in both runs?
@@ -54,15 +54,15 @@ fn test_ends<'a, 'b>(
     held: &'b [u32],
     q: u32,
     i: u32,
-) -> Trials
-    requires sound { Sound plan.now × Flagged plan.now old.now × Flagged plan.now new.now }
+) -> Together<Tried>
+    requires flagged { Flagged plan.now old.now × Flagged plan.now new.now }
     requires testable { Testable plan.now search q i }
     ensures { TestEnds result
         (test_at (view_in plan.now old.now) x search held.now q i)
         (test_at (view_in plan.now new.now) x search held.now q i) }
 {
     if gives_up(old, new, search, held, i) {
-        return Trials::Agreed(walk::given_up());
+        return Ok(walk::given_up());
     }
     ranks::part_tests(plan, old, new, x, search, held, held, q, i)
 }
@@ -76,8 +76,8 @@ fn turn_ends<'a, 'b>(
     search: Search,
     held: &'b [u32],
     s: State,
-) -> Round
-    requires sound { Sound plan.now × Flagged plan.now old.now × Flagged plan.now new.now }
+) -> Together<Turn>
+    requires flagged { Flagged plan.now old.now × Flagged plan.now new.now }
     requires search_bounds { SearchBounds search × (s.at < 256) × Going s }
     ensures turn_ends { TurnEnds result
         (turn_at (view_in plan.now old.now) x search held.now s)
@@ -87,21 +87,15 @@ fn turn_ends<'a, 'b>(
     let t = search.wanted.t;
     let start = search.start;
     let q = walk::try_number(search, s);
-    let m = descents::meet(plan, old, new, x, t, q, s.at);
-    match m {
-        Meeting::Apart(p) => Round::Left(p),
-        Meeting::Together(l) => {
-            let drawn = l.drawn;
-            let Drawn::Winner(i) = drawn else {
-                return Round::Joined(Turn::Fail(walk::failed_to(start, 0, s)));
-            };
-            if descent::type_of(plan, i) != t {
-                return Round::Joined(Turn::Fail(walk::failed_to(start, 0, s)));
-            }
-            let k = test_ends(plan, old, new, x, search, held, q, i);
-            ranks::on_trials(start, s, l.bucket, i, k)
-        }
+    let l = descents::meet(plan, old, new, x, t, q, s.at)?;
+    let Some(i) = l.drawn else {
+        return Ok(Turn::Fail(walk::failed_to(start, 0, s)));
+    };
+    if descent::type_of(&plan.words, i) != t {
+        return Ok(Turn::Fail(walk::failed_to(start, 0, s)));
     }
+    let w = test_ends(plan, old, new, x, search, held, q, i)?;
+    Ok(walk::on_tried(start, s, l.bucket, i, w))
 }
 
 // One rank of both, up to where they part. f0 is f as the rank starts.
@@ -113,8 +107,8 @@ pub fn rank_ends<'a, 'b>(
     search: Search,
     held: &'b [u32],
     f0: u32,
-) -> Course
-    requires sound { Sound plan.now × Flagged plan.now old.now × Flagged plan.now new.now }
+) -> Together<Ranked>
+    requires flagged { Flagged plan.now old.now × Flagged plan.now new.now }
     requires search_bounds { SearchBounds search × (f0 ≤ 1000) }
     ensures { RankEnds result
         (rank_at (view_in plan.now old.now) x search held.now f0)
@@ -126,15 +120,12 @@ pub fn rank_ends<'a, 'b>(
         f: f0,
         inner: 0,
     };
+    // No range: each turn gives the state that the next begins in, and the state counts its failures.
     while s.fr < 50 {
-        let k = turn_ends(plan, old, new, x, search, held, s);
-        match k {
-            Round::Left(p) => return Course::Forked(p),
-            Round::Joined(u) => match u {
-                Turn::Fill(i, e, j) => return Course::Shared(walk::rank_end(i, e, j, s)),
-                Turn::Fail(next) => s = next,
-            },
+        match turn_ends(plan, old, new, x, search, held, s)? {
+            Turn::Fill(i, e, j) => return Ok(walk::rank_end(i, e, j, s)),
+            Turn::Fail(next) => s = next,
         }
     }
-    Course::Shared(walk::rank_end(walk::HOLE, walk::HOLE, 0, s))
+    Ok(walk::rank_end(walk::HOLE, walk::HOLE, 0, s))
 }

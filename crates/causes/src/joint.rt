@@ -1,44 +1,31 @@
 // Both runs of a group at once, as long as their walks are one: an edit leaves most groups as they were, and both runs of such a group cost
 // little more than one.
-ghost use Rattle.std.specs.Prelude.{◌≡◌, true, false, ◌*◌, ◌≤◌, length, take};
+ghost use Rattle.std.specs.Prelude.{◌≡◌, true, ◌*◌, ◌≤◌, length, take, IfOk};
 ghost use Rattle.laws.specs.Members.{Each};
-ghost use Rattle.hierarchy.specs.Arrays.{view_in, Sound, Flagged, actions_in};
+ghost use Rattle.hierarchy.specs.Arrays.{view_in, Flagged, actions_in};
 ghost use Rattle.blocks.specs.Products.{emitted_to};
 ghost use Rattle.walk.specs.Searches.{Inward};
 ghost use Rattle.placement.specs.Bare.{bare_select, bare_run_to, filled_up};
 ghost use Rattle.placement.specs.Working.{Workable};
 ghost use Rattle.placement.specs.Ruled.{Ready};
 ghost use Rattle.placement.specs.Chosen.{bare_in};
-ghost use Rattle.placement.specs.Progress.{run_in, Room, Doable, Acted};
-ghost use Rattle.causes.specs.Joint.{Under, Shares};
+ghost use Rattle.placement.specs.Progress.{run_in, Doable, Acted};
+ghost use Rattle.causes.specs.Joint.{Under};
 
 use crate::ends;
 use blocks::actions;
 use definitions::{Action, Mode, Ranked};
 use hierarchy::{Plan, Rule, Values};
 use item::Item;
-use lockstep::Course;
-use placement::rule::Progress;
+use lockstep::Together;
+use placement::progress::Progress;
 use placement::select::Chosen;
 use placement::{rule, select};
 use walk::{Search, Wanted};
 
-// What a select of both runs puts out, if no walk has parted.
-#[derive(Clone, Copy)]
-pub struct Choice {
-    pub parted: bool,
-    pub chosen: Chosen,
-}
-
-// Where both runs have come to, if no walk has parted.
-#[derive(Clone, Copy)]
-pub struct Joint {
-    pub parted: bool,
-    pub run: Progress,
-}
-
 // What rank r makes in both runs under entry a of the working list, these numbers being held so far and f being what it is: under a hole
 // nothing.
+// As in `placement::select`, but by two runs: other walks are called, and more is asked of the values.
 fn rank_under<'a, 'b>(
     plan: &'a Plan,
     old: &'a Values,
@@ -49,14 +36,14 @@ fn rank_under<'a, 'b>(
     r: u32,
     held: &'b [u32],
     f: u32,
-) -> Course
-    requires sound { Sound plan.now × Flagged plan.now old.now × Flagged plan.now new.now }
+) -> Together<Ranked>
+    requires flagged { Flagged plan.now old.now × Flagged plan.now new.now }
     requires n_bound { (wanted.n ≤ 16) × (r ≤ 16) × Inward wanted.mode wanted.t × Workable a × (f ≤ 1000) }
-    ensures { Shares (Under (view_in plan.now old.now) (view_in plan.now new.now)
-        x wanted a r held.now f) result }
+    ensures { IfOk result (Under (view_in plan.now old.now) (view_in plan.now new.now)
+        x wanted a r held.now f) }
 {
     if a == walk::HOLE {
-        return Course::Shared(Ranked {
+        return Ok(Ranked {
             item: walk::HOLE,
             entry: walk::HOLE,
             fr: 0,
@@ -64,7 +51,7 @@ fn rank_under<'a, 'b>(
             inner: 0,
         });
     }
-    let bucket = Item::numbered(a);
+    let bucket = Item::from(a);
     let search = Search {
         wanted: wanted,
         start: bucket.bucket_number(),
@@ -84,63 +71,22 @@ fn select_both<'a, 'b>(
     working: [u32; 16],
     len: usize,
     wanted: Wanted,
-) -> Choice
-    requires sound { Sound plan.now × Flagged plan.now old.now × Flagged plan.now new.now }
+) -> Together<Chosen>
+    requires flagged { Flagged plan.now old.now × Flagged plan.now new.now }
     requires before_len_bound { length before.now ≤ 32 }
     requires le_n { (1 ≤ wanted.n) × (wanted.n ≤ 16) × (len * wanted.n ≤ 16) × Each Workable (take len working) × Inward wanted.mode wanted.t }
-    ensures { result.parted ≡ false →
-        (bare_in result.chosen ≡ bare_select (view_in plan.now old.now) x wanted.mode wanted.n wanted.t before.now (take len working))
-        × (bare_in result.chosen ≡ bare_select (view_in plan.now new.now) x wanted.mode wanted.n wanted.t before.now (take len working))
-        × (result.chosen.len ≤ len * wanted.n) × (result.chosen.tries ≤ 40800) }
+    ensures { IfOk result (λ d.
+        (bare_in d ≡ bare_select (view_in plan.now old.now) x wanted.mode wanted.n wanted.t before.now (take len working))
+        × (bare_in d ≡ bare_select (view_in plan.now new.now) x wanted.mode wanted.n wanted.t before.now (take len working))
+        × (d.len ≤ len * wanted.n) × (d.tries ≤ 40800)) }
 {
-    let mode = wanted.mode;
-    let n = wanted.n;
-    let e = before.len();
-    let mut held = select::held_from(before);
-    let mut items = [walk::HOLE; 16];
-    let mut entries = [walk::HOLE; 16];
-    let mut m: usize = 0;
-    let mut tries: u32 = 0;
-    let mut i: usize = 0;
-    while i < len {
-        let a = working[i];
-        let mut f: u32 = 0;
-        let mut r: u32 = 0;
-        while r < n {
-            r += 1;
-            let at = e + m;
-            let c = rank_under(plan, old, new, x, wanted, a, r, &held[..at], f);
-            let Course::Shared(k) = c else {
-                return Choice {
-                    parted: true,
-                    chosen: Chosen {
-                        items: items,
-                        entries: entries,
-                        len: m,
-                        tries: tries,
-                    },
-                };
-            };
-            f = k.f;
-            tries += walk::tries_in(k);
-            if !select::leaves_out(mode, k.entry) {
-                held[at] = k.item;
-                items[m] = k.item;
-                entries[m] = k.entry;
-                m += 1;
-            }
-        }
-        i += 1;
-    }
-    Choice {
-        parted: false,
-        chosen: Chosen {
-            items: items,
-            entries: entries,
-            len: m,
-            tries: tries,
-        },
-    }
+    select::select_by(
+        |a, r, held, f| rank_under(plan, old, new, x, wanted, a, r, held, f),
+        before,
+        working,
+        len,
+        wanted,
+    )
 }
 
 // The select's entries become the working list of both.
@@ -153,17 +99,16 @@ fn selected<'a>(
     mode: Mode,
     n: u32,
     t: u32,
-) -> Joint
-    requires sound { Sound plan.now × Flagged plan.now old.now × Flagged plan.now new.now }
-    requires room { Room p × (p.tries ≤ 1000000) × Doable p (Action.Select mode n t) }
-    ensures { result.parted ≡ false →
-        Acted (view_in plan.now old.now) x p (Action.Select mode n t) result.run
-        × Acted (view_in plan.now new.now) x p (Action.Select mode n t) result.run }
+) -> Together<Progress>
+    requires flagged { Flagged plan.now old.now × Flagged plan.now new.now }
+    requires room { (p.tries ≤ 1000000) × Doable p (Action.Select mode n t) }
+    ensures { IfOk result (λ q. Acted (view_in plan.now old.now) x p (Action.Select mode n t) q
+        × Acted (view_in plan.now new.now) x p (Action.Select mode n t) q) }
 {
     let list = p.list;
     let working = p.working;
     let wanted = Wanted { mode, n, t };
-    let d = select_both(
+    let c = select_both(
         plan,
         old,
         new,
@@ -172,31 +117,21 @@ fn selected<'a>(
         working,
         p.len,
         wanted,
-    );
-    if d.parted {
-        return Joint {
-            parted: true,
-            run: p,
-        };
-    }
-    let c = d.chosen;
+    )?;
     let items = c.items;
     let entries = c.entries;
-    let run = Progress {
-        items: items,
+    Ok(Progress {
+        items,
         working: entries,
         len: c.len,
-        list: list,
+        list,
         emitted: p.emitted,
         tries: p.tries + c.tries,
-    };
-    Joint {
-        parted: false,
-        run: run,
-    }
+    })
 }
 
-// One step more in both. What is no select is the same in any run.
+// One step more in both. What is no select is the same in any run. Only a select can part, so this and `run` are `rule::act` and `rule::run` with a
+// way out: one form for both would be no plainer.
 fn act<'a>(
     plan: &'a Plan,
     old: &'a Values,
@@ -204,55 +139,40 @@ fn act<'a>(
     x: u32,
     p: Progress,
     a: Action,
-) -> Joint
-    requires sound { Sound plan.now × Flagged plan.now old.now × Flagged plan.now new.now }
-    requires room { Room p × (p.tries ≤ 1000000) × Doable p a }
-    ensures { result.parted ≡ false →
-        Acted (view_in plan.now old.now) x p a result.run
-        × Acted (view_in plan.now new.now) x p a result.run }
+) -> Together<Progress>
+    requires flagged { Flagged plan.now old.now × Flagged plan.now new.now }
+    requires room { (p.tries ≤ 1000000) × Doable p a }
+    ensures { IfOk result (λ q. Acted (view_in plan.now old.now) x p a q × Acted (view_in plan.now new.now) x p a q) }
 {
     match a {
         Action::Select(mode, n, t) => selected(plan, old, new, x, p, mode, n, t),
-        Action::Take(_) => Joint {
-            parted: false,
-            run: rule::act(plan, old, x, p, a),
-        },
-        Action::Emit => Joint {
-            parted: false,
-            run: rule::act(plan, old, x, p, a),
-        },
-        Action::Idle => Joint {
-            parted: false,
-            run: p,
-        },
+        Action::Take(_) => Ok(rule::act(plan, old, x, p, a)),
+        Action::Emit => Ok(rule::act(plan, old, x, p, a)),
+        Action::Idle => Ok(p),
     }
 }
 
 // The steps of the rule for group x in both runs, up to where a walk parts.
-fn run<'a>(plan: &'a Plan, old: &'a Values, new: &'a Values, rule: Rule, x: u32) -> Joint
+fn run<'a>(
+    plan: &'a Plan,
+    old: &'a Values,
+    new: &'a Values,
+    rule: Rule,
+    x: u32,
+) -> Together<Progress>
     requires { (rule.len ≤ 16) × Ready plan.now old.now (actions_in rule) × Flagged plan.now new.now }
-    ensures { result.parted ≡ false →
-        (run_in result.run ≡ bare_run_to (view_in plan.now old.now) x (actions_in rule) rule.len)
-        × (run_in result.run ≡ bare_run_to (view_in plan.now new.now) x (actions_in rule) rule.len)
-        × (result.run.emitted ≤ 32) × (result.run.emitted ≤ emitted_to (actions_in rule) rule.len) }
+    ensures { IfOk result (λ p. (run_in p ≡ bare_run_to (view_in plan.now old.now) x (actions_in rule) rule.len)
+        × (run_in p ≡ bare_run_to (view_in plan.now new.now) x (actions_in rule) rule.len)
+        × (p.emitted ≤ emitted_to (actions_in rule) rule.len)) }
 {
+    // Read of the plan only for the proof, which learns here that the plan is sound.
+    let _ = &plan.words;
     let mut p = rule::start();
     let steps = rule.steps;
-    let n = rule.len;
-    let mut k: usize = 0;
-    while k < n {
-        let a = actions::action_of(steps[k]);
-        let j = act(plan, old, new, x, p, a);
-        if j.parted {
-            return j;
-        }
-        p = j.run;
-        k += 1;
+    for step in &steps[..rule.len] {
+        p = act(plan, old, new, x, p, actions::action_of(*step))?;
     }
-    Joint {
-        parted: false,
-        run: p,
-    }
+    Ok(p)
 }
 
 // Whether no walk of group x parts: then the row is its list in both runs.
@@ -270,11 +190,11 @@ pub fn place_both<'a, 'b>(
         (row.new ≡ filled_up (length row.old) (bare_run_to (view_in plan.now old.now) x (actions_in rule) rule.len).list)
         × (row.new ≡ filled_up (length row.old) (bare_run_to (view_in plan.now new.now) x (actions_in rule) rule.len).list) }
 {
-    let j = run(plan, old, new, rule, x);
-    if j.parted {
+    // Read of the plan only for the proof, which learns here that the plan is sound.
+    let _ = &plan.words;
+    let Ok(p) = run(plan, old, new, rule, x) else {
         return false;
-    }
-    let p = j.run;
+    };
     let list = p.list;
     let m = p.emitted;
     rule::write_row(&list[..m], row);

@@ -9,7 +9,7 @@ ghost use Rattle.definitions.specs.Select.{nowhere};
 ghost use Rattle.definitions.specs.Rule.{run_to};
 ghost use Rattle.definitions.specs.Edit.{parting, cause_of};
 ghost use Rattle.definitions.specs.Calls.{not_first_n};
-ghost use Rattle.hierarchy.specs.Arrays.{view_in, Sound, Flagged, actions_in};
+ghost use Rattle.hierarchy.specs.Arrays.{view_in, Flagged, actions_in};
 ghost use Rattle.walk.specs.Searches.{Inward};
 ghost use Rattle.placement.specs.Working.{Workable};
 ghost use Rattle.placement.specs.Ruled.{Ready};
@@ -24,8 +24,8 @@ use blocks::actions;
 use definitions::Action;
 use hierarchy::{Plan, Rule, Values};
 use item::Item;
-use lockstep::{Course, partings, ranks};
-use placement::rule::Progress;
+use lockstep::{partings, ranks};
+use placement::progress::Progress;
 use placement::{rule, select};
 use walk::{Search, Wanted};
 
@@ -59,7 +59,6 @@ fn place_cause<'a, 'b, 'c>(
     news: &'c [u32],
     above: Above,
 ) -> u32
-    requires sound { Sound plan.now }
     requires n_bound { (wanted.n ≤ 16) × (above.rank ≤ 16) × Inward wanted.mode wanted.t × Workable above.entry }
     ensures { TellsUnder (view_in plan.now old.now) (view_in plan.now new.now)
         x wanted.mode wanted.n wanted.t olds.now news.now above.cause above.entry above.rank result }
@@ -70,17 +69,14 @@ fn place_cause<'a, 'b, 'c>(
     if above.entry == walk::HOLE {
         return 0;
     }
-    let bucket = Item::numbered(above.entry);
+    let bucket = Item::from(above.entry);
     let search = Search {
         wanted: wanted,
         start: bucket.bucket_number(),
         r: above.rank,
     };
     let k = ranks::part_rank(plan, old, new, x, search, olds, news, 0);
-    match k {
-        Course::Forked(p) => partings::cause(p),
-        Course::Shared(_) => 0,
-    }
+    partings::cause(k.err())
 }
 
 // What place k of a select is made from.
@@ -99,18 +95,13 @@ fn above_at<'a>(working: &'a [u32; 16], causes: &'a [u32; 16], n: u32, k: usize)
 
 // What a run holds in a select that leads it from one progress to another: what it has emitted, and behind that the items of its places.
 fn held_by(from: Progress, to: Progress) -> [u32; 48]
-    requires { from.emitted ≤ 32 }
     ensures { (k : ℕ) → k ≤ 16 → take (from.emitted + k) result ≡ take from.emitted from.list ++ take k to.items }
 {
     let list = from.list;
     let e = from.emitted;
     let items = to.items;
     let mut held = select::held_from(&list[..e]);
-    let mut j: usize = 0;
-    while j < 16 {
-        held[e + j] = items[j];
-        j += 1;
-    }
+    held[e..e + 16].copy_from_slice(&items);
     held
 }
 
@@ -125,9 +116,7 @@ fn causes_of<'a>(
     o: Progress,
     n: Progress,
 ) -> [u32; 16]
-    requires sound { Sound plan.now }
-    requires le_n { (1 ≤ wanted.n) × (wanted.n ≤ 16) × Inward wanted.mode wanted.t × (o.len ≤ 16)
-        × (p.old.emitted ≤ 32) × (p.new.emitted ≤ 32)
+    requires le_n { (1 ≤ wanted.n) × (wanted.n ≤ 16) × Inward wanted.mode wanted.t
         × ((i : ℕ) → i < o.len → Workable (get_or p.old.working (i / wanted.n) 0)) }
     ensures { TellsTo (view_in plan.now old.now) (view_in plan.now new.now)
         x wanted.mode wanted.n wanted.t (take p.old.emitted p.old.list) (take p.new.emitted p.new.list)
@@ -141,10 +130,8 @@ fn causes_of<'a>(
     let news = held_by(from2, n);
     let e = from.emitted;
     let e2 = from2.emitted;
-    let len = o.len;
     let mut causes: [u32; 16] = [0; 16];
-    let mut k: usize = 0;
-    while k < len {
+    for k in 0..o.len {
         let a = above_at(&working, &above, wanted.n, k);
         causes[k] = place_cause(
             plan,
@@ -156,7 +143,6 @@ fn causes_of<'a>(
             &news[..e2 + k],
             a,
         );
-        k += 1;
     }
     causes
 }
@@ -172,7 +158,7 @@ fn worked<'a>(
     o: Progress,
     n: Progress,
 ) -> [u32; 16]
-    requires sound { Sound plan.now × Able p a }
+    requires able { Able p a }
     requires acted { Acted (view_in plan.now old.now) x p.old a o × Acted (view_in plan.now new.now) x p.new a n }
     ensures { Worked (view_in plan.now old.now) (view_in plan.now new.now) x p a result }
 {
@@ -212,7 +198,7 @@ fn listed(p: Both, a: Action) -> [u32; 32]
 
 // One step more in both runs.
 fn act<'a>(plan: &'a Plan, old: &'a Values, new: &'a Values, x: u32, p: Both, a: Action) -> Both
-    requires sound { Sound plan.now × Able p a }
+    requires able { Able p a }
     requires flagged { Flagged plan.now old.now × Flagged plan.now new.now }
     ensures { Leads (view_in plan.now old.now) (view_in plan.now new.now) x p a result }
 {
@@ -244,6 +230,8 @@ pub fn row_causes<'a>(
         let s2 = run_to (view_in plan.now new.now) x (actions_in rule) rule.len in
         (j : ℕ) → j < length s.list → get_or result j 0 ≡ cause_of (parting (get_or s.list j nowhere).walk (get_or s2.list j nowhere).walk) }
 {
+    // Read of the plan only for the proof, which learns here that the plan is sound.
+    let _ = &plan.words;
     let start = rule::start();
     let mut p = Both {
         old: start,
@@ -252,12 +240,8 @@ pub fn row_causes<'a>(
         list: [0; 32],
     };
     let steps = rule.steps;
-    let n = rule.len;
-    let mut k: usize = 0;
-    while k < n {
-        let a = actions::action_of(steps[k]);
-        p = act(plan, old, new, x, p, a);
-        k += 1;
+    for step in &steps[..rule.len] {
+        p = act(plan, old, new, x, p, actions::action_of(*step));
     }
     p.list
 }

@@ -1,7 +1,7 @@
 -- Document 02, change 7: "for independent selects and select through, lowering one acceptance moves places only in groups whose list held that
 -- drive before the edit, and raising it only in groups whose list holds it afterwards. Moves are then at most W times the number of those
 -- groups." Of a loadable map that 17 admits, and an edit that fits. Assumes nothing.
-use Rattle.std.specs.Prelude.{◌≡◌, Bool, true, false, cond, leb, eqb, get_or}
+use Rattle.std.specs.Prelude.{◌≡◌, Bool, true, false, cond, leb, eqb, get_or, Option, Some}
 use Rattle.std.proofs.Math.Path.{refl, sym, subst}
 use Rattle.std.proofs.Common.{ap, ◌∙◌, mul-add, length-append, eq-eqb, ltb-true, lt-ltb}
 use Rattle.std.proofs.lemmas.Bool.{false≢true, lt-leb}
@@ -118,9 +118,9 @@ rejected-not : (b : Bool) → Rejected ≡ judge b → b ≡ true → ⊥
 rejected-not true e q = let z : ◌≡◌ {A = ℕ} 0 1 = cc in omega arith
 rejected-not false e q = false≢true q
 
-module _ (m : Map) (d a : ℕ) (L : Loadable m) (ind : independent m ≡ true) (f : fits m (Acceptance d a) ≡ true) where
-  abbrev c : Change
-  c = Acceptance d a
+module _ (m : Map) (d a : ℕ) (L : Loadable m) (ind : independent m ≡ true) (f : fits m (Some (Acceptance d a)) ≡ true) where
+  abbrev c : Option Change
+  c = Some (Acceptance d a)
 
   abbrev m' : Map
   m' = put m c

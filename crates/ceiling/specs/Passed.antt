@@ -1,5 +1,5 @@
 -- Document 02, change 7: a device that passes its test in a rank's walk, inner walks included, fills the rank's place. Assumes nothing.
-use Rattle.std.specs.Prelude.{◌≡◌, refl, Bool, ltb, eqb}
+use Rattle.std.specs.Prelude.{◌≡◌, refl, Bool, ltb, eqb, Option, None, Some}
 use Rattle.std.proofs.Math.Bool.{true, false}
 use mathlib.Core.List.Memᴰ
 use mathlib.Core.List.{List, [], ◌∷◌, Memᴰ}
@@ -7,8 +7,6 @@ use Rattle.std.proofs.Common.{⊎_elim, arith, eqb-true, ne_eqb}
 use Prim.Native.Nat.{ℕ, zero, suc, ◌<◌}
 use Rattle.definitions.specs.declared.Mode.{Mode}
 use Rattle.definitions.specs.declared.Mode.TheVariants.{FirstN, Independent, Through}
-use Rattle.definitions.specs.declared.Drawn.{Drawn}
-use Rattle.definitions.specs.declared.Drawn.TheVariants.{Winner, Nothing}
 use Rattle.definitions.specs.declared.Verdict.TheVariants.{Passed}
 use Rattle.definitions.specs.declared.Event.{Event}
 use Rattle.definitions.specs.declared.Event.TheVariants.{Drew, Tested}
@@ -30,7 +28,7 @@ abbrev pub Fills : ℕ → RankEvents → Type 0
 Fills d k = Passing d k.events → k.ranked.entry ≡ d
 
 -- a draw is no test
-no_test : {b r d : ℕ} {y : Drawn} → Tested d Passed ≡ Drew b r y → ⊥
+no_test : {b r d : ℕ} {y : Option ℕ} → Tested d Passed ≡ Drew b r y → ⊥
 no_test e = let z : ◌≡◌ {A = ℕ} 0 1 = cc in omega arith
 
 -- one event in front of others
@@ -46,12 +44,12 @@ module _ (v : View) (x t r d : ℕ) where
   descent-silent (suc k) b = go (draw_at v x r b) (descent-silent k)
     where
       on : (i : ℕ) (u : Bool) → ((c : ℕ) → Passing d (descend_in v x t r k c).events → ⊥) → Passing d (on_winner (descend_in v x t r k) r b i u).events → ⊥
-      on i true rest j = rest (bucket_number i) (passing-front (Drew b r (Winner i)) (descend_in v x t r k (bucket_number i)).events no_test j)
+      on i true rest j = rest (bucket_number i) (passing-front (Drew b r (Some i)) (descend_in v x t r k (bucket_number i)).events no_test j)
       on i false rest j = no_test (Memᴰ.eq_of_singleton j)
 
-      go : (y : Drawn) → ((c : ℕ) → Passing d (descend_in v x t r k c).events → ⊥) → Passing d (on_drawn v x t r (descend_in v x t r k) b y).events → ⊥
-      go Nothing rest j = no_test (Memᴰ.eq_of_singleton j)
-      go (Winner i) rest j = on i (ltb t (v.type i)) rest j
+      go : (y : Option ℕ) → ((c : ℕ) → Passing d (descend_in v x t r k c).events → ⊥) → Passing d (on_drawn v x t r (descend_in v x t r k) b y).events → ⊥
+      go None rest j = no_test (Memᴰ.eq_of_singleton j)
+      go (Some i) rest j = on i (ltb t (v.type i)) rest j
 
 -- ---- a rank
 
@@ -87,9 +85,9 @@ module _ (v : View) (x : ℕ) (mode : Mode) (n t : ℕ) (test : ℕ → ℕ → 
           (Memᴰ.append_cases D.events h)
       by-type i false e h = absurd (silent h)
 
-      by-drawn : (y : Drawn) → Ends (on_landed v x mode n t test start r s q D.landed.bucket D.events y)
-      by-drawn Nothing h = absurd (silent h)
-      by-drawn (Winner i) h = by-type i (eqb (v.type i) t) refl h
+      by-drawn : (y : Option ℕ) → Ends (on_landed v x mode n t test start r s q D.landed.bucket D.events y)
+      by-drawn None h = absurd (silent h)
+      by-drawn (Some i) h = by-type i (eqb (v.type i) t) refl h
 
   rank-fills : (k : ℕ) (s : State) → Fills d (rank_from v x mode n t test start r k s)
   unfolding rank_from on_turn after_turn onward rank_end

@@ -2,7 +2,7 @@
 -- run only; and the run in which it passed has the device in the group's list. Assumes nothing.
 use Rattle.std.proofs.Math.Path.{◌≡◌, refl, ap}
 use Rattle.std.proofs.Common.{sym, ◌∙◌, subst, ⊎_elim, arith}
-use Rattle.std.specs.Prelude.{Bool, true, false, cond, ◌⊎◌, ℕ, suc, ◌+◌, ◌/◌, ◌%◌, ◌<◌, eqb, get_or, take}
+use Rattle.std.specs.Prelude.{Bool, true, false, cond, ◌⊎◌, ℕ, suc, ◌+◌, ◌/◌, ◌%◌, ◌<◌, eqb, get_or, take, Option, Some}
 use mathlib.Core.List.Memᴰ
 use mathlib.Core.List.{List, [], ◌++◌, Memᴰ, append_cancel_left}
 use Rattle.std.proofs.Math.Decide.{dec_lt}
@@ -126,7 +126,7 @@ module _ (m : Map) (L : Loadable m) (ind : independent m ≡ true) (x k p n t d 
 -- ---- where an edit of an acceptance is first seen
 
 -- a test of device d at which the walks of some place part: it passed in one run only
-pub record Source (m : Map) (c : Change) (x d : ℕ) : Type 0 where
+pub record Source (m : Map) (c : Option Change) (x d : ℕ) : Type 0 where
   pub k : ℕ
   pub p : ℕ
   pub n : ℕ
@@ -137,7 +137,7 @@ pub record Source (m : Map) (c : Change) (x d : ℕ) : Type 0 where
   pub judged : (u ≡ judge (accepted (view_of m) x d)) × (w ≡ judge (accepted (view_of (put m c)) x d))
 
 -- every traced place leads there: 02 needs an edit of a weight
-pub source : (m : Map) (c : Change) (x d a : ℕ) → c ≡ Acceptance d a → {k p cause : ℕ} → Traced m c x k p cause → Source m c x d
+pub source : (m : Map) (c : Option Change) (x d a : ℕ) → c ≡ Some (Acceptance d a) → {k p cause : ℕ} → Traced m c x k p cause → Source m c x d
 source m c x d a q (above e lv t) = source m c x d a q t
 source m c x d a q (stays e t) = source m c x d a q t
 source m c x d a q (accept {k} {p} {n} {d = f} {u} {w} e h z j) =

@@ -1,5 +1,5 @@
 -- The arrays together: the view that they give is the map's, and a draw reads inside them. Assumes nothing.
-use Rattle.std.specs.Prelude.{◌≡◌, Bool, ◌&&◌, ℕ, zero, suc, ◌+◌, ◌-◌, ◌<◌, ◌≤◌, eqb, get_or, take, drop}
+use Rattle.std.specs.Prelude.{◌≡◌, Bool, ◌&&◌, ℕ, zero, suc, ◌+◌, ◌-◌, ◌<◌, ◌≤◌, eqb, get_or, take, drop, Option}
 use Rattle.std.proofs.Math.Path.{refl, sym, ap}
 use Rattle.std.proofs.Common.{subst, ◌∙◌, length-take, length-drop, get_or-take, get_or-drop}
 use Rattle.std.proofs.Math.Bool.{true, false, cond}
@@ -75,7 +75,7 @@ same-planned m n c y z k =
       seeded = k.seeded;
     }
 
-pub put-planned : (m : Map) (c : Change) {plan : List ℕ} → Planned m plan → Planned (put m c) plan
+pub put-planned : (m : Map) (c : Option Change) {plan : List ℕ} → Planned m plan → Planned (put m c) plan
 put-planned m c = same-planned m (put m c) (put-children m c) (put-bucket-type m c) (put-kind-number m c)
 
 -- ---- parts of a mapped list

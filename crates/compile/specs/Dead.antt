@@ -1,14 +1,12 @@
 -- Document 02, change 1: an inner walk among buckets in which no device that is drawn passes. Whatever is held, each of its turns fails, so "it
 -- gives up after 50". Assumes nothing.
-use Rattle.std.specs.Prelude.{◌≡◌, Bool, List}
+use Rattle.std.specs.Prelude.{◌≡◌, Bool, List, Option, None, Some}
 use Rattle.std.proofs.Math.Path.{refl}
 use Rattle.std.proofs.Common.{◌∙◌, ltb-true, eqb-true}
 use Rattle.std.proofs.Math.Bool.{true, false, cond}
 use Prim.Native.Nat.{ℕ, zero, suc, ◌+◌, ◌<◌}
 use native.Mathlib.Omega.{arith}
 use Rattle.std.proofs.Math.Dec.{ltb, eqb}
-use Rattle.definitions.specs.declared.Drawn.{Drawn}
-use Rattle.definitions.specs.declared.Drawn.TheVariants.{Winner, Nothing}
 use Rattle.definitions.specs.declared.Event.{Event}
 use Rattle.definitions.specs.declared.Mode.TheVariants.{Independent}
 use Rattle.definitions.specs.declared.Ranked.{Ranked}
@@ -23,29 +21,29 @@ use Rattle.definitions.specs.Walk.{hole, Descent, draw_at, landing, deeper, on_w
 use Rattle.laws.specs.Walk.{rank-fail}
 use Rattle.hierarchy.specs.Arrays.{given_up}
 
-no-winner : (i : ℕ) → ◌≡◌ {A = Drawn} Nothing (Winner i) → ⊥
+no-winner : (i : ℕ) → ◌≡◌ {A = Option ℕ} None (Some i) → ⊥
 no-winner i e = let z : ◌≡◌ {A = ℕ} 0 1 = cc in omega arith
 
 -- the buckets that are P: a bucket drawn in one is one, and a device drawn in one does not pass
-module _ (v : View) (x : ℕ) (P : ℕ → Type 0) (goes : (r b i : ℕ) → P b → draw_at v x r b ≡ Winner i → 0 < v.type i → P (bucket_number i))
-    (fails : (r b i : ℕ) → P b → draw_at v x r b ≡ Winner i → v.type i ≡ 0 → accepted v x i ≡ false) where
+module _ (v : View) (x : ℕ) (P : ℕ → Type 0) (goes : (r b i : ℕ) → P b → draw_at v x r b ≡ Some i → 0 < v.type i → P (bucket_number i))
+    (fails : (r b i : ℕ) → P b → draw_at v x r b ≡ Some i → v.type i ≡ 0 → accepted v x i ≡ false) where
   -- a descent ends in one of them, with nothing that passes
   abbrev Ended : Descent → Type 0
-  Ended d = P d.landed.bucket × ((i : ℕ) → d.landed.drawn ≡ Winner i → v.type i ≡ 0 → accepted v x i ≡ false)
+  Ended d = P d.landed.bucket × ((i : ℕ) → d.landed.drawn ≡ Some i → v.type i ≡ 0 → accepted v x i ≡ false)
 
   descent-dead : (r k b : ℕ) → P b → Ended (descend_in v x 0 r k b)
   unfolding descend_in on_drawn on_winner landing deeper
   descent-dead r zero b p = (p, λ i e. absurd (no-winner i e))
   descent-dead r (suc k) b p = go (draw_at v x r b) refl (descent-dead r k)
     where
-      on : (i : ℕ) → draw_at v x r b ≡ Winner i → (u : Bool) → ltb 0 (v.type i) ≡ u → ((c : ℕ) → P c → Ended (descend_in v x 0 r k c))
+      on : (i : ℕ) → draw_at v x r b ≡ Some i → (u : Bool) → ltb 0 (v.type i) ≡ u → ((c : ℕ) → P c → Ended (descend_in v x 0 r k c))
           → Ended (on_winner (descend_in v x 0 r k) r b i u)
       on i e true q rest = rest (bucket_number i) (goes r b i p e (ltb-true 0 (v.type i) q))
       on i e false q rest = (p, λ j h. fails r b j p (e ∙ h))
 
-      go : (d : Drawn) → draw_at v x r b ≡ d → ((c : ℕ) → P c → Ended (descend_in v x 0 r k c)) → Ended (on_drawn v x 0 r (descend_in v x 0 r k) b d)
-      go Nothing e rest = (p, λ i h. absurd (no-winner i h))
-      go (Winner i) e rest = on i e (ltb 0 (v.type i)) refl rest
+      go : (d : Option ℕ) → draw_at v x r b ≡ d → ((c : ℕ) → P c → Ended (descend_in v x 0 r k c)) → Ended (on_drawn v x 0 r (descend_in v x 0 r k) b d)
+      go None e rest = (p, λ i h. absurd (no-winner i h))
+      go (Some i) e rest = on i e (ltb 0 (v.type i)) refl rest
 
   module _ (held : List ℕ) (n start q : ℕ) (p : P start) where
     -- a turn from s is one failure, and the next draw is in one of them
@@ -67,11 +65,11 @@ module _ (v : View) (x : ℕ) (P : ℕ → Type 0) (goes : (r b i : ℕ) → P b
         go false = p
     tested-dead s b i h e false = record { next = start; here = p; turn = rw e refl }
 
-    landed-dead : (s : State) (r b : ℕ) (es : List Event) → P b → (d : Drawn) → ((i : ℕ) → d ≡ Winner i → v.type i ≡ 0 → accepted v x i ≡ false)
+    landed-dead : (s : State) (r b : ℕ) (es : List Event) → P b → (d : Option ℕ) → ((i : ℕ) → d ≡ Some i → v.type i ≡ 0 → accepted v x i ≡ false)
         → Fails s (on_landed v x Independent n 0 (plain_test v x held) start q s r b es d).turn
     unfolding on_landed on_type tested on_tried plain_test plain verdict_of
-    landed-dead s r b es h Nothing f = untested-dead s es
-    landed-dead s r b es h (Winner i) f = go (eqb (v.type i) 0) refl
+    landed-dead s r b es h None f = untested-dead s es
+    landed-dead s r b es h (Some i) f = go (eqb (v.type i) 0) refl
       where
         go : (u : Bool) → eqb (v.type i) 0 ≡ u → Fails s (on_type v x Independent n 0 (plain_test v x held) start q s r b es i u).turn
         go true e = tested-dead s b i h (f i refl (eqb-true (v.type i) 0 e)) (has i held)

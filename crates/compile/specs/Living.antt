@@ -1,6 +1,6 @@
 -- Document 02, change 1: the live weight of a bucket, what its devices above acceptance 0 weigh together. It is the bucket's weight in a map
 -- whose devices of acceptance 0 weigh nothing. Where it is 0, no inner walk beneath the bucket finds a device. Assumes nothing.
-use Rattle.std.specs.Prelude.{◌≡◌, Bool, ◌&&◌, length}
+use Rattle.std.specs.Prelude.{◌≡◌, Bool, ◌&&◌, length, Some}
 use Rattle.std.proofs.Math.Path.{refl, sym}
 use Rattle.std.proofs.Common.{ap, ◌∙◌, subst, arith}
 use Rattle.std.proofs.Math.Bool.{true, false, cond}
@@ -12,7 +12,6 @@ use Rattle.std.proofs.Math.ListN.{get_or, get_or-eq_default}
 use borrow.Author.Tests.{le-ltb, lt-leb, eq-eqb, ne_eqb, eqb-true}
 use Rattle.definitions.specs.declared.Device.{Device}
 use Rattle.definitions.specs.declared.Change.TheVariants.{Weight}
-use Rattle.definitions.specs.declared.Drawn.TheVariants.{Winner}
 use Rattle.definitions.specs.Lists.{sum}
 use Rattle.definitions.specs.Hash.{S, hash2}
 use Rattle.definitions.specs.Map.{Map, bucket_item, bucket_number}
@@ -44,7 +43,7 @@ module _ (m : Map) where
   -- the devices below k that are so weigh nothing
   unfoldable pub living_to : ℕ → Map
   living_to zero = m
-  living_to (suc k) = cond (shut k) (put (living_to k) (Weight k 0)) (living_to k)
+  living_to (suc k) = cond (shut k) (put (living_to k) (Some (Weight k 0))) (living_to k)
 
   -- all of them
   unfoldable pub living : Map
@@ -73,15 +72,15 @@ module _ (m : Map) where
       n : Map
       n = living_to k
 
-      go : (t : Bool) → has_device m k ≡ t → (u : Bool) → Alike n → Alike (cond (t && u) (put n (Weight k 0)) n)
+      go : (t : Bool) → has_device m k ≡ t → (u : Bool) → Alike n → Alike (cond (t && u) (put n (Some (Weight k 0))) n)
       go false e u a = a
       go true e false a = a
       go true e true a =
           record {
-            loadable = λ l. put-loadable n (Weight k 0) (a.loadable l) (rw (a.present k, e) refl);
-            planned = λ p. put-planned n (Weight k 0) (a.planned p);
-            present = λ d. put-has-device n (Weight k 0) d ∙ a.present d;
-            children = λ b. put-children n (Weight k 0) b ∙ a.children b;
+            loadable = λ l. put-loadable n (Some (Weight k 0)) (a.loadable l) (rw (a.present k, e) refl);
+            planned = λ p. put-planned n (Some (Weight k 0)) (a.planned p);
+            present = λ d. put-has-device n (Some (Weight k 0)) d ∙ a.present d;
+            children = λ b. put-children n (Some (Weight k 0)) b ∙ a.children b;
           }
 
   -- a step leaves the other devices
@@ -92,7 +91,7 @@ module _ (m : Map) where
       n : Map
       n = living_to k
 
-      go : (t : Bool) → has_device m k ≡ t → (u : Bool) → device_weight (cond (t && u) (put n (Weight k 0)) n) d ≡ device_weight n d
+      go : (t : Bool) → has_device m k ≡ t → (u : Bool) → device_weight (cond (t && u) (put n (Some (Weight k 0))) n) d ≡ device_weight n d
       go false e u = refl
       go true e false = refl
       go true e true = put-weight n k 0 ((alike k).present k ∙ e) d ∙ rw (ne_eqb d k f) refl
@@ -111,7 +110,7 @@ module _ (m : Map) where
       n : Map
       n = living_to k
 
-      go : (t : Bool) → has_device m k ≡ t → (u : Bool) → device_weight (cond (t && u) (put n (Weight k 0)) n) k ≡ cond u 0 (device_weight m k)
+      go : (t : Bool) → has_device m k ≡ t → (u : Bool) → device_weight (cond (t && u) (put n (Some (Weight k 0))) n) k ≡ cond u 0 (device_weight m k)
       go false e true = above k k (omega arith) ∙ lookup-none (λ (d : Device). d.number) (λ (d : Device). d.weight) k m.devices e
       go false e false = above k k (omega arith)
       go true e false = above k k (omega arith)
@@ -162,12 +161,12 @@ module _ (m : Map) (L : Loadable m) where
 
   module _ (x : ℕ) where
     -- a bucket drawn in it weighs nothing there
-    goes : (r b i : ℕ) → live_weight m b ≡ 0 → draw_at (view_of m) x r b ≡ Winner i → 0 < (view_of m).type i → live_weight m (bucket_number i) ≡ 0
+    goes : (r b i : ℕ) → live_weight m b ≡ 0 → draw_at (view_of m) x r b ≡ Some i → 0 < (view_of m).type i → live_weight m (bucket_number i) ≡ 0
     unfolding live_weight
     goes r b i p e t = rw (is-bucket (view_of m) (sinks m L) x 0 r i t) (child-none b i p (drawn-child m x r b i e).0)
 
     -- a device drawn in it has acceptance 0
-    fails : (r b i : ℕ) → live_weight m b ≡ 0 → draw_at (view_of m) x r b ≡ Winner i → (view_of m).type i ≡ 0 → accepted (view_of m) x i ≡ false
+    fails : (r b i : ℕ) → live_weight m b ≡ 0 → draw_at (view_of m) x r b ≡ Some i → (view_of m).type i ≡ 0 → accepted (view_of m) x i ≡ false
     unfolding view_of living accepted device_accepts accepts
     fails r b i p e t =
         let (n, h) = drawn-child m x r b i e in

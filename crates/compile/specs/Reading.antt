@@ -1,79 +1,71 @@
 -- What the readers of the text need, and what their loops have read so far. Assumes nothing.
-use Rattle.std.specs.Prelude.{◌≡◌, Bool, true, false, List, ◌∷◌, ℕ, suc, ◌+◌, ◌-◌, ◌<◌, ◌≤◌, length, get_or, take, drop, set, replicate}
-use Rattle.std.proofs.Math.Path.{refl}
-use Rattle.std.proofs.Common.{sym, ◌∙◌, arith, add-one, drop_of_length-le, drop-cons, get_or-take, take_all, take-suc, take-suc-set, eq-eqb, ne_eqb}
-use Rattle.std.proofs.Math.ListN.{length-take}
+use Rattle.std.specs.Prelude.{◌≡◌, Bool, true, ◌||◌, List, [], ◌∷◌, ℕ, ◌+◌, ◌-◌, ◌<◌, ◌≤◌, length, get_or, take, set, replicate, Option, None, Some}
+use Rattle.std.specs.List.{list_any}
+use Rattle.std.proofs.Math.Path.{refl, ap}
+use Rattle.std.proofs.Common.{sym, ◌∙◌, arith, add-one, take_all, take-suc, take-suc-set, eq-eqb, ne_eqb}
 use Rattle.definitions.specs.declared.Device.{Device}
 use Rattle.definitions.specs.declared.Bucket.{Bucket}
 use Rattle.definitions.specs.declared.Step.{Step}
 use Rattle.definitions.specs.declared.Change.{Change}
-use Rattle.definitions.specs.declared.Change.TheVariants.{Acceptance, Weight, Malformed}
+use Rattle.definitions.specs.declared.Change.TheVariants.{Acceptance, Weight}
 use Rattle.definitions.specs.Lists.{every, some_of}
 use Rattle.definitions.specs.Frames.{frames_in}
 use Rattle.definitions.specs.Map.{Map, map_of}
 use Rattle.definitions.specs.View.{bucket_type, kind_number, acceptance_of, device_weight}
-use Rattle.definitions.specs.Load.{device_ranged, bucket_ranged, load_number}
+use Rattle.definitions.specs.Load.{device_ranged, bucket_ranged}
 use Rattle.definitions.specs.Edit.{with_acceptance, with_weight, with_sums, put}
 use Rattle.laws.specs.Lists.{every-at, get_d-mapped}
 use Rattle.laws.specs.Loadable.{Loadable, ranged-is, device-ranged, bucket-ranged, put-length}
 use Rattle.text.specs.declared.Shape.{Shape}
 use Rattle.text.specs.Shape.{shape_of}
-use Rattle.text.specs.RoundTrip.{Framed}
 use Rattle.text.specs.Records.{no_device, no_bucket, no_step, shape-devices}
-use Rattle.text.specs.Loading.{loaded}
 use Rattle.hierarchy.specs.Tables.{Tabled, From, from-none, from_more, from_all}
 
--- t is a text with its counts of frames, and m a map that load takes: that of the text, or that after an edit
-pub record Readable (t : List ℕ) (s : Shape) (m : Map) : Type 0 where
-  pub framed : Framed t
-  pub shape : s ≡ shape_of (frames_in t)
-  pub loadable : Loadable m
-
--- a text of number 0, with a map that load takes
-pub readable : (t : List ℕ) (s : Shape) (m : Map) → load_number t ≡ 0 → s ≡ shape_of (frames_in t) → Loadable m → Readable t s m
-readable t s m e q l = record { framed = (loaded t e).framed; shape = q; loadable = l }
-
--- Malformed is no edit
-pub no-edit : (m : Map) → put m Malformed ≡ m
+-- no edit
+pub no-edit : (m : Map) → put m None ≡ m
 unfolding put
 no-edit m = refl
 
 -- ---- a device after an edit
 
 module _ (m : Map) (d : Device) (k : ℕ) (h : k < length m.devices) (e : d ≡ get_or m.devices k no_device) where
-  accepting : (n v : ℕ) → get_or (put m (Acceptance n v)).devices k no_device ≡ with_acceptance n v d
+  accepting : (n v : ℕ) → get_or (put m (Some (Acceptance n v))).devices k no_device ≡ with_acceptance n v d
   unfolding put
   accepting n v = rw e (get_d-mapped (with_acceptance n v) m.devices k no_device no_device h)
 
-  weighing : (n v : ℕ) → get_or (put m (Weight n v)).devices k no_device ≡ with_weight n v d
+  weighing : (n v : ℕ) → get_or (put m (Some (Weight n v))).devices k no_device ≡ with_weight n v d
   unfolding put with_sums
   weighing n v = rw e (get_d-mapped (with_weight n v) m.devices k no_device no_device h)
 
-  module _ (c : Change) (n v : ℕ) where
+  module _ (c : Option Change) (n v : ℕ) where
     -- the device whose acceptance is edited
-    pub accepted : c ≡ Acceptance n v → d.number ≡ n
+    pub accepted : c ≡ Some (Acceptance n v) → d.number ≡ n
         → record { number = d.number; weight = d.weight; acceptance = v } ≡ get_or (put m c).devices k no_device
     accepted p q = rw (p, accepting n v, eq-eqb d.number n q)
 
     -- another
-    pub not-accepted : c ≡ Acceptance n v → (d.number ≡ n → ⊥) → d ≡ get_or (put m c).devices k no_device
+    pub not-accepted : c ≡ Some (Acceptance n v) → (d.number ≡ n → ⊥) → d ≡ get_or (put m c).devices k no_device
     not-accepted p q = rw (p, accepting n v, ne_eqb d.number n q)
 
     -- the device whose weight is edited
-    pub weighed : c ≡ Weight n v → d.number ≡ n
+    pub weighed : c ≡ Some (Weight n v) → d.number ≡ n
         → record { number = d.number; weight = v; acceptance = d.acceptance } ≡ get_or (put m c).devices k no_device
     weighed p q = rw (p, weighing n v, eq-eqb d.number n q)
 
     -- another
-    pub not-weighed : c ≡ Weight n v → (d.number ≡ n → ⊥) → d ≡ get_or (put m c).devices k no_device
+    pub not-weighed : c ≡ Some (Weight n v) → (d.number ≡ n → ⊥) → d ≡ get_or (put m c).devices k no_device
     not-weighed p q = rw (p, weighing n v, ne_eqb d.number n q)
 
   -- no edit
-  pub unedited : (c : Change) → c ≡ Malformed → d ≡ get_or (put m c).devices k no_device
+  pub unedited : (c : Option Change) → c ≡ None → d ≡ get_or (put m c).devices k no_device
   unfolding put
   unedited c p = rw p e
 
 -- ---- the devices
+
+-- what a closure gives of each place below n is the device there
+abbrev pub Gives : (ℕ → Device → Type 0) → ℕ → List Device → Type 0
+Gives post n ds = (n ≡ length ds) × ((k : ℕ) → k < n → (d : Device) → post k d → d ≡ get_or ds k no_device)
 
 -- the weights of the devices from the k-th on
 abbrev pub WeightsFrom : List Device → List ℕ → ℕ → Type 0
@@ -117,7 +109,7 @@ module _ (ds : List Device) (k : ℕ) where
   acceptances-all ts h f m e = rw e (from_all (λ d. d.number) (λ d. d.acceptance) ds 1024 ts k h f)
 
 -- how many devices there are after an edit
-pub edited-count : (t : List ℕ) (s : Shape) (c : Change) → s ≡ shape_of (frames_in t) → s.devices ≡ length (put (map_of t) c).devices
+pub edited-count : (t : List ℕ) (s : Shape) (c : Option Change) → s ≡ shape_of (frames_in t) → s.devices ≡ length (put (map_of t) c).devices
 edited-count t s c e = shape-devices t s e ∙ sym (put-length (map_of t) c)
 
 -- ---- the buckets
@@ -171,19 +163,8 @@ steps_all xs ts k n e h l p =
     let q : k ≡ n = omega arith in
     rw q at p ∙ take_all n xs (omega arith)
 
--- a loop that looks for a step from the front, among the first n
-module _ (p : Step → Bool) (xs : List Step) (n k : ℕ) (l : n ≤ length xs) where
-  some-cons : k < n → drop k (take n xs) ≡ get_or xs k no_step ∷ drop (suc k) (take n xs)
-  some-cons h = drop-cons (take n xs) k no_step (omega (arith, length-take n xs)) ∙ rw (get_or-take n xs k no_step h) refl
-
-  pub some_next : k < n → p (get_or xs k no_step) ≡ false → some_of p (drop (k + 1) (take n xs)) ≡ some_of p (drop k (take n xs))
-  unfolding some_of
-  some_next h e = rw (add-one k, some-cons h, e) refl
-
-  pub some-here : k < n → p (get_or xs k no_step) ≡ true → some_of p (drop k (take n xs)) ≡ true
-  unfolding some_of
-  some-here h e = rw (some-cons h, e) refl
-
-  pub some_end : n ≤ k → some_of p (drop k (take n xs)) ≡ false
-  unfolding some_of
-  some_end h = rw (drop_of_length-le (take n xs) {i = k} (omega (arith, length-take n xs))) refl
+-- `any` of an iterator over a list
+pub any-some : {A : Type 0} (f : A → Bool) (xs : List A) → list_any f xs ≡ some_of f xs
+unfolding some_of
+any-some f [] = refl
+any-some f (x ∷ xs) = ap (λ (b : Bool). f x || b) (any-some f xs)

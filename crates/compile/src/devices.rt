@@ -1,20 +1,21 @@
 // The devices: their weights and acceptances, by device number, after an edit or a return that is not yet written into the text.
-ghost use Rattle.std.specs.Prelude.{◌≡◌, true, ℕ, ◌+◌, ◌*◌, ◌<◌, ◌≤◌, length, get_or, drop};
+ghost use Rattle.std.specs.Prelude.{◌≡◌, true, List, ℕ, ◌+◌, ◌*◌, ◌<◌, ◌≤◌, length, get_or, drop};
 ghost use Rattle.definitions.specs.Lists.{every};
 ghost use Rattle.definitions.specs.Map.{Map, map_of};
 ghost use Rattle.definitions.specs.View.{acceptance_of, device_weight};
 ghost use Rattle.definitions.specs.Load.{device_ranged};
 ghost use Rattle.definitions.specs.Edit.{put};
 ghost use Rattle.definitions.specs.States.{drives_in};
-ghost use Rattle.text.specs.RoundTrip.{Framed};
+ghost use Rattle.laws.specs.Loadable.{Loadable};
 ghost use Rattle.text.specs.Records.{no_device};
 ghost use Rattle.hierarchy.specs.Tables.{Tabled};
-ghost use Rattle.compile.specs.Reading.{Readable};
+ghost use Rattle.compile.specs.Reading.{Gives};
 
 use definitions::{Change, Device};
-use frames::records;
-use text::Shape;
+use frames::records::Record;
+use text::Text;
 
+// Two arrays and not one of pairs: each is laid into a section of its own.
 #[derive(Clone, Copy)]
 pub struct Devices {
     pub weights: [u32; 1024],
@@ -22,55 +23,57 @@ pub struct Devices {
 }
 
 // Device k, with its new weight or acceptance where it is the one edited.
-pub fn device_with(t: &[u8], k: usize, c: Change) -> Device
-    requires { Framed t.now × (k < length (map_of t.now).devices) }
-    ensures { result ≡ get_or (put (map_of t.now) c).devices k no_device }
+pub fn device_with(text: &Text, k: usize, c: Option<Change>) -> Device
+    requires { k < length (map_of text.now).devices }
+    ensures { result ≡ get_or (put (map_of text.now) c).devices k no_device }
 {
-    let d = records::device(t, k);
-    match c {
+    let d = Device::read(text, k);
+    let Some(e) = c else {
+        return d;
+    };
+    match e {
         Change::Acceptance(n, v) => if d.number == n {
-            Device {
-                number: d.number,
-                weight: d.weight,
-                acceptance: v,
-            }
+            Device { acceptance: v, ..d }
         } else {
             d
         },
         Change::Weight(n, v) => if d.number == n {
-            Device {
-                number: d.number,
-                weight: v,
-                acceptance: d.acceptance,
-            }
+            Device { weight: v, ..d }
         } else {
             d
         },
-        Change::Malformed => d,
     }
 }
 
-// From the last device to the first, as a device is looked up by its number from the front.
-pub fn devices_of(t: &[u8], s: Shape, c: Change) -> Devices
-    requires { Readable t.now s (put (map_of t.now) c) }
-    ensures tabled { Tabled result.weights 1024 (device_weight (put (map_of t.now) c)) }
-    ensures tabled_2 { Tabled result.acceptances 1024 (acceptance_of (put (map_of t.now) c)) }
+// The weights and the acceptances of n devices, of which `device` gives each. From the last device to the first, as a device is looked up by its
+// number from the front.
+fn tabled<F: Fn(usize) -> Device>(n: usize, device: F) -> Devices
+    requires asked { (k : ℕ) → k < n → F.pre device k }
+    requires ranged { (ds : List Device) × Gives (F.post device) n ds × (every device_ranged ds ≡ true) }
+    ensures { (ds : List Device) → Gives (F.post device) n ds → every device_ranged ds ≡ true → (m : Map) → m.devices ≡ ds
+        → Tabled result.weights 1024 (device_weight m) × Tabled result.acceptances 1024 (acceptance_of m) }
 {
     let mut weights = [0u32; 1024];
     let mut acceptances = [0u32; 1024];
-    let mut k = s.devices;
-    while 0 < k {
-        let at = k - 1;
-        let d = device_with(t, at, c);
+    for k in (0..n).rev() {
+        let d = device(k);
         let i = d.number as usize;
         weights[i] = d.weight;
         acceptances[i] = d.acceptance;
-        k = at;
     }
     Devices {
-        weights: weights,
-        acceptances: acceptances,
+        weights,
+        acceptances,
     }
+}
+
+// Those of the map as an edit leaves it.
+pub fn devices_of(text: &Text, c: Option<Change>) -> Devices
+    requires { Loadable (put (map_of text.now) c) }
+    ensures tabled { Tabled result.weights 1024 (device_weight (put (map_of text.now) c)) }
+    ensures tabled_2 { Tabled result.acceptances 1024 (acceptance_of (put (map_of text.now) c)) }
+{
+    tabled(Device::count(text), |k| device_with(text, k, c))
 }
 
 // Drive k of those that words spell from word a on.
@@ -93,19 +96,5 @@ pub fn devices_in(states: &[u32], a: usize, n: usize) -> Devices
     ensures { (m : Map) → m.devices ≡ drives_in n (drop a states.now)
         → Tabled result.weights 1024 (device_weight m) × Tabled result.acceptances 1024 (acceptance_of m) }
 {
-    let mut weights = [0u32; 1024];
-    let mut acceptances = [0u32; 1024];
-    let mut k = n;
-    while 0 < k {
-        let at = k - 1;
-        let d = drive_in(states, a, at);
-        let i = d.number as usize;
-        weights[i] = d.weight;
-        acceptances[i] = d.acceptance;
-        k = at;
-    }
-    Devices {
-        weights: weights,
-        acceptances: acceptances,
-    }
+    tabled(n, |k| drive_in(states, a, k))
 }

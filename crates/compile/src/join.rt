@@ -3,28 +3,24 @@ ghost use Rattle.std.specs.Prelude.{◌≡◌, ◌+◌, ◌≤◌, length};
 ghost use Rattle.hierarchy.specs.Sections.{Laid};
 ghost use Rattle.hierarchy.specs.Arrays.{firsts_in, counts_in, types_in, kinds_in, children_in, seed_in, acceptances_in, lives_in};
 
-use hierarchy::{Plan, Values};
+use hierarchy::Values;
 
 // All of from over to, from a on.
-fn lay<'a, 'b>(from: &'a [u32], to: &'b mut [u32], a: usize)
+fn lay(from: &[u32], to: &mut [u32], a: usize)
     requires { a + length from.now ≤ length to.old }
     ensures { Laid a (length from.now) from.now to.old to.new }
 {
-    let mut i: usize = 0;
-    while i < from.len() {
-        to[a + i] = from[i];
-        i += 1;
-    }
+    to[a..a + from.len()].copy_from_slice(from);
 }
 
-pub fn plan_of<'a>(
-    first: &'a [u32; 256],
-    count: &'a [u32; 256],
-    types: &'a [u32; 256],
-    kinds: &'a [u32; 256],
-    items: &'a [u32; 1280],
+pub fn plan_of(
+    first: &[u32; 256],
+    count: &[u32; 256],
+    types: &[u32; 256],
+    kinds: &[u32; 256],
+    items: &[u32; 1280],
     seed: u32,
-) -> Plan
+) -> [u32; hierarchy::SEED + 1]
     ensures { (firsts_in result ≡ first.now) × (counts_in result ≡ count.now) × (types_in result ≡ types.now)
         × (kinds_in result ≡ kinds.now) × (children_in result ≡ items.now) × (seed_in result ≡ seed) }
 {
@@ -38,11 +34,7 @@ pub fn plan_of<'a>(
     plan
 }
 
-pub fn values_of<'a>(
-    acceptance: &'a [u32; 1024],
-    words: &'a [u32; 1280],
-    lives: &'a [u32; 256],
-) -> Values
+pub fn values_of(acceptance: &[u32; 1024], words: &[u32; 1280], lives: &[u32; 256]) -> Values
     ensures { (acceptances_in result ≡ acceptance.now) × (children_in result ≡ words.now) × (lives_in result ≡ lives.now) }
 {
     let mut values = [0u32; hierarchy::LIVE + 256];

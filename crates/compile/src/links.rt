@@ -1,11 +1,13 @@
 // The children of the buckets, in one list, with the part of each bucket.
 ghost use Rattle.definitions.specs.Map.{map_of};
+ghost use Rattle.laws.specs.Loadable.{Loadable};
 ghost use Rattle.compile.specs.Links.{Arranged};
-ghost use Rattle.compile.specs.Reading.{Readable};
 
-use frames::records;
-use text::Shape;
+use definitions::Link;
+use frames::records::Record;
+use text::Text;
 
+// Three arrays, as each is a section of the plan.
 #[derive(Clone, Copy)]
 pub struct Children {
     // Of each bucket, by its number: where its children begin, and how many they are.
@@ -16,26 +18,23 @@ pub struct Children {
 }
 
 // From the last link to the first: the links rise by bucket, so the last place noted of a bucket is where its children begin.
-pub fn children_of(t: &[u8], s: Shape) -> Children
-    requires { Readable t.now s (map_of t.now) }
-    ensures { Arranged (map_of t.now) result.first result.count result.items }
+pub fn children_of(text: &Text) -> Children
+    requires { Loadable (map_of text.now) }
+    ensures { Arranged (map_of text.now) result.first result.count result.items }
 {
     let mut first = [0u32; 256];
     let mut count = [0u32; 256];
     let mut items = [0u32; 1280];
-    let mut k = s.links;
-    while 0 < k {
-        let at = k - 1;
-        let l = records::link(t, s, at);
+    for k in (0..Link::count(text)).rev() {
+        let l = Link::read(text, k);
         let b = l.bucket as usize;
-        first[b] = at as u32;
+        first[b] = k as u32;
         count[b] += 1;
-        items[at] = l.child;
-        k = at;
+        items[k] = l.child;
     }
     Children {
-        first: first,
-        count: count,
-        items: items,
+        first,
+        count,
+        items,
     }
 }

@@ -2,17 +2,17 @@
 ghost use Rattle.std.specs.Prelude.{◌≡◌, ◌≤◌, eqb, length, take};
 ghost use Rattle.definitions.specs.Lists.{some_of};
 ghost use Rattle.definitions.specs.Map.{map_of, actions_of};
+ghost use Rattle.laws.specs.Loadable.{Loadable};
 ghost use Rattle.hierarchy.specs.Arrays.{actions_in};
-ghost use Rattle.compile.specs.Reading.{Readable};
 
 use definitions::Step;
-use frames::records;
+use frames::records::Record;
 use hierarchy::Rule;
-use text::Shape;
+use text::Text;
 
-fn steps_of(t: &[u8], s: Shape) -> [Step; 16]
-    requires { Readable t.now s (map_of t.now) }
-    ensures { take s.steps result ≡ (map_of t.now).steps }
+fn steps_of(text: &Text) -> [Step; 16]
+    requires { Loadable (map_of text.now) }
+    ensures { take (length (map_of text.now).steps) result ≡ (map_of text.now).steps }
 {
     let none = Step {
         step: 0,
@@ -21,23 +21,19 @@ fn steps_of(t: &[u8], s: Shape) -> [Step; 16]
         bucket: 0,
     };
     let mut steps = [none; 16];
-    let n = s.steps;
-    let mut k: usize = 0;
-    while k < n {
-        steps[k] = records::step(t, s, k);
-        k += 1;
+    for k in 0..Step::count(text) {
+        steps[k] = Step::read(text, k);
     }
     steps
 }
 
-pub fn rule_of(t: &[u8], s: Shape) -> Rule
-    requires { Readable t.now s (map_of t.now) }
-    ensures { (actions_in result ≡ actions_of (map_of t.now)) × (result.len ≡ length (map_of t.now).steps) × (result.len ≤ 16) }
+pub fn rule_of(text: &Text) -> Rule
+    requires { Loadable (map_of text.now) }
+    ensures { (actions_in result ≡ actions_of (map_of text.now)) × (result.len ≡ length (map_of text.now).steps) × (result.len ≤ 16) }
 {
-    let steps = steps_of(t, s);
     Rule {
-        steps: steps,
-        len: s.steps,
+        steps: steps_of(text),
+        len: Step::count(text),
     }
 }
 
@@ -46,15 +42,5 @@ pub fn goes_through(rule: Rule) -> bool
     requires { rule.len ≤ 16 }
     ensures { result ≡ some_of (λ s. eqb s.step 5) (take rule.len rule.steps) }
 {
-    let steps = rule.steps;
-    let n = rule.len;
-    let mut k: usize = 0;
-    while k < n {
-        let s = steps[k];
-        if s.step == 5 {
-            return true;
-        }
-        k += 1;
-    }
-    false
+    rule.steps[..rule.len].iter().any(|s| s.step == 5)
 }

@@ -12,11 +12,9 @@ fn add_up(words: &mut [u32], a: usize, n: usize)
     ensures { Summed a n words.old words.new }
 {
     let mut sum: u32 = 0;
-    let mut i: usize = 0;
-    while i < n {
+    for i in 0..n {
         sum += words[a + i];
         words[a + i] = sum;
-        i += 1;
     }
 }
 
@@ -25,14 +23,12 @@ pub fn words_of(plan: &Plan, mut words: [u32; 1280]) -> [u32; 1280]
     requires { Parts plan.now words }
     ensures { (b : ℕ) → part_in plan.now b result ≡ words_by (kind_in plan.now b) (part_in plan.now b words) }
 {
-    let mut b: usize = 0;
-    while b < 256 {
-        if plan[hierarchy::KINDS + b] == hierarchy::TREE {
-            let a = plan[b] as usize;
-            let n = plan[hierarchy::COUNT + b] as usize;
+    for b in 0..256usize {
+        if plan.words[hierarchy::KINDS + b] == hierarchy::TREE {
+            let a = plan.words[b] as usize;
+            let n = plan.words[hierarchy::COUNT + b] as usize;
             add_up(&mut words, a, n);
         }
-        b += 1;
     }
     words
 }

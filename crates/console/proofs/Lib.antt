@@ -1,2 +1,3 @@
 -- What several proofs share.
 pub mod Outcomes
+pub mod Rest

@@ -1,5 +1,5 @@
 -- What was read for the map, read by read. Assumes nothing.
-use Rattle.std.specs.Prelude.{◌≡◌, refl, Bool, List, ◌++◌, ℕ, ◌+◌, ◌≤◌, length, take, drop}
+use Rattle.std.specs.Prelude.{◌≡◌, refl, List, ◌++◌, ℕ, ◌+◌, ◌≤◌, length, take, drop}
 use Rattle.std.proofs.Common.{sym, ap, ◌∙◌, arith, length-take-le, take-add}
 use Rattle.protocol.specs.declared.input.Spot.{Spot}
 use Rattle.protocol.specs.declared.input.Spot.TheVariants.{Start}
@@ -32,6 +32,6 @@ module _ (g : Gathered) (space : List ℕ) (h : Gathers g space) where
       }
 
 -- nothing is read yet
-pub gathers-none : (space : List ℕ) (go : Bool) → Gathers (record { spot = Start; map = 0; read = 0; go = go }) space
+pub gathers-none : (space : List ℕ) → Gathers (record { spot = Start; map = 0; read = 0 }) space
 unfolding map_length map_from spot_after
-gathers-none space go = record { within = omega arith; own = omega arith; map_is = refl; spot_is = refl }
+gathers-none space = record { within = omega arith; own = omega arith; map_is = refl; spot_is = refl }

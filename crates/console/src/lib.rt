@@ -1,14 +1,14 @@
 // What programs `fill` and `operate` do with the bytes of standard input: reads a map and then lines; prints the row of each group, then what each
 // line leads to, as soon as the bytes that ask for it are there. It only moves bytes: what they mean and what is printed is decided in `engine`,
-// `protocol` and `report`. At the first read or write that fails it stops.
+// `protocol` and `report`. At the first read or write that fails it stops. Map, table and states are lent each by itself, as `report` takes them.
 #![tactic(auto)]
 
 mod system;
 
-ghost use Rattle.std.specs.Prelude.{◌≡◌, true, List, ◌++◌, ℕ, ◌+◌, ◌*◌, ◌<◌, ◌≤◌, length, take, IfOk, OnOk, OnErr};
+ghost use Rattle.std.specs.Prelude.{◌≡◌, List, ◌++◌, ℕ, ◌+◌, ◌*◌, ◌≤◌, length, take, IfOk, OnOk, OnErr};
 ghost use Rattle.std.specs.Io.KnownBytes.{Consumes};
 ghost use Rattle.report.specs.Edits.{site_of, states_at_start, session, bytes_of};
-ghost use Rattle.report.specs.Kept.{Short, Keeps};
+ghost use Rattle.report.specs.Kept.{Keeps};
 ghost use Rattle.report.specs.Reads.{Led, Ended};
 ghost use Rattle.report.specs.Says.{Within};
 ghost use Rattle.console.specs.declared.Gathered.{Gathered};
@@ -19,23 +19,17 @@ use protocol::asked::Program;
 use protocol::input;
 use protocol::input::Spot;
 use report::edits;
-use report::edits::{Line, Said};
+use report::edits::Said;
+use report::line::Line;
 use std::io::{Read, Write};
 use system::Failure;
 
-// What was read for the map: where the map stands, how many of the bytes are its own, how many were read, and whether to read on.
+// What was read for the map: where the map stands, how many of the bytes are its own, and how many were read.
 #[derive(Clone, Copy)]
 struct Gathered {
     spot: Spot,
     map: usize,
     read: usize,
-    go: bool,
-}
-
-fn wide(x: u32) -> usize
-    ensures { result ≡ x }
-{
-    x as usize
 }
 
 fn print_refusal<W: Write>(stdout: &mut W, number: u32) -> Result<(), Failure> {
@@ -67,44 +61,25 @@ fn print_by_line<W: Write>(
 ) -> Result<(), Failure>
     requires { (w ≤ 32) × (groups * w ≤ length table.now) × (length line.old ≡ 11 + 4 * w) }
 {
-    let mut g: u32 = 0;
-    while g < groups {
-        let a = wide(g) * w;
-        let e = a + w;
-        print_row(stdout, g, &table[a..e], line)?;
-        g += 1;
+    for g in 0..groups {
+        let a = g as usize * w;
+        print_row(stdout, g, &table[a..a + w], line)?;
     }
     Ok(())
 }
 
-// One byte more than load takes, so that a map that does not fit is refused as too long.
-fn input_space() -> [u8; 65537]
-    ensures { 65537 ≡ length result }
-{
-    [0; 65537]
-}
-
-// A row's line: 11 bytes, and 4 for each of at most 32 places.
-fn line_space() -> [u8; 139]
-    ensures { 139 ≡ length result }
-{
-    [0; 139]
-}
+// The input's space is one byte more than load takes, so that a map that does not fit is refused as too long.
+const INPUT: usize = 65537;
 
 // "and 64 KiB to the moves"
-fn moves_space() -> [u8; 65536]
-    ensures { 65536 ≡ length result }
-{
-    [0; 65536]
-}
+const MOVES: usize = 65536;
 
-// Prints the rows of the groups below `groups`, each w places wide.
+// Prints the rows of the groups below `groups`, each w places wide. A row's line has 11 bytes, and 4 for each of at most 32 places.
 fn print_rows<W: Write>(stdout: &mut W, table: &[u16], groups: u32, w: usize) -> Result<(), Failure>
     requires { (w ≤ 32) × (groups * w ≤ length table.now) }
 {
-    let n = 11 + 4 * w;
-    let mut space = line_space();
-    print_by_line(stdout, table, groups, w, &mut space[..n])
+    let mut line = [0u8; 139];
+    print_by_line(stdout, table, groups, w, &mut line[..11 + 4 * w])
 }
 
 // Loads the map, which empties the states, fills the table and prints it; answers whether lines follow. "A refused load or fill prints that frame
@@ -127,37 +102,23 @@ fn place_all<W: Write>(
         print_refusal(stdout, filled.number)?;
         return Ok(false);
     }
-    print_rows(stdout, table, sizes.groups, wide(sizes.places))?;
+    print_rows(stdout, table, sizes.groups, sizes.places as usize)?;
     Ok(true)
-}
-
-// Whether there is more of the map to read behind a read of so many bytes.
-fn goes_on(count: usize, spot: Spot) -> bool
-    ensures { result ≡ true → 0 < count }
-{
-    if count == 0 {
-        return false;
-    }
-    !input::is_whole(spot)
 }
 
 // One read more for the map. An error leaves what was gathered.
 fn gather_some<R: Read>(stdin: &mut R, space: &mut [u8], g: Gathered) -> Result<Gathered, Failure>
     requires { Gathers g space.old }
-    ensures ok { IfOk result (λ r. Gathers r space.new × (r.go ≡ true → g.read < r.read)) }
+    ensures ok { IfOk result (λ r. Gathers r space.new × (g.read ≤ r.read)) }
     ensures err { OnErr result (Gathers g space.new) }
 {
-    let n = g.read;
-    let before = g.spot;
-    let count = system::read_some(stdin, &mut space[n..])?;
-    let e = n + count;
-    let part = input::map_part(before, &space[n..e]);
-    let spot = part.spot;
+    let count = system::read_some(stdin, &mut space[g.read..])?;
+    let read = g.read + count;
+    let part = input::map_part(g.spot, &space[g.read..read]);
     Ok(Gathered {
-        spot,
+        spot: part.spot,
         map: g.map + part.count,
-        read: e,
-        go: goes_on(count, spot),
+        read,
     })
 }
 
@@ -170,25 +131,18 @@ fn gather<R: Read>(stdin: &mut R, space: &mut [u8]) -> Result<Gathered, Failure>
         spot: Spot::Start,
         map: 0,
         read: 0,
-        go: true,
     };
-    while g.read < space.len() {
-        let next = gather_some(stdin, space, g)?;
-        if !next.go {
-            return Ok(next);
+    while g.read < space.len() && !input::is_whole(g.spot) {
+        let before = g.read;
+        g = gather_some(stdin, space, g)?;
+        if g.read == before {
+            break;
         }
-        g = next;
     }
     Ok(g)
 }
 
-fn print_front<W: Write>(stdout: &mut W, space: &[u8], n: usize) -> Result<(), Failure>
-    requires { n ≤ length space.now }
-{
-    system::print(stdout, &space[..n])
-}
-
-// Prints what was said: bytes of the space, then rows of the table.
+// Prints what was said.
 fn print_said<W: Write>(
     stdout: &mut W,
     said: Said,
@@ -197,8 +151,11 @@ fn print_said<W: Write>(
 ) -> Result<(), Failure>
     requires { Within said table.now space.now }
 {
-    print_front(stdout, space, said.bytes)?;
-    print_rows(stdout, table, said.groups, said.width)
+    match said {
+        Said::Refused(number) => print_refusal(stdout, number),
+        Said::Front(n) => system::print(stdout, &space[..n]),
+        Said::Rows(groups, width) => print_rows(stdout, table, groups, width),
+    }
 }
 
 // Takes the bytes read and prints what each line leads to, before the space is used for the next. An error leaves what some of them led to.
@@ -208,27 +165,22 @@ fn take_bytes<W: Write>(
     map: &mut [u8],
     table: &mut [u16],
     states: &mut [u32; 24586],
-    line: Line,
+    line: &mut Line,
     read: &[u8],
     space: &mut [u8],
-) -> Result<Line, Failure>
-    requires { (5 ≤ length space.old) × Short line }
-    ensures short { IfOk result (λ l. Short l) }
-    ensures led { IfOk result (λ l. (xs : List ℕ) → Keeps line xs → Led l (site_of map.new table.new states.new)
+) -> Result<(), Failure>
+    ensures led { OnOk result ((xs : List ℕ) → Keeps line.old xs → Led line.new (site_of map.new table.new states.new)
         (bytes_of p space.old (session (site_of map.old table.old states.old) xs) read.now)) }
-    ensures err { OnErr result ((xs : List ℕ) → Keeps line xs → (n : ℕ) × Came p space.old (session (site_of map.old table.old states.old) xs)
+    ensures err { OnErr result ((xs : List ℕ) → Keeps line.old xs → (n : ℕ) × Came p space.old (session (site_of map.old table.old states.old) xs)
         (take n read.now) (site_of map.new table.new states.new)) }
 {
-    let mut l = line;
-    let mut i: usize = 0;
-    while i < read.len() {
-        let run = edits::on_bytes(p, map, table, states, l, &read[i..], space);
-        let turn = run.turn;
-        l = turn.line;
-        print_said(stdout, turn.said, table, space)?;
-        i += run.used;
+    let mut rest = read;
+    while !rest.is_empty() {
+        let run = edits::on_bytes(p, map, table, states, line, rest, space);
+        print_said(stdout, run.said, table, space)?;
+        rest = &rest[run.used..];
     }
-    Ok(l)
+    Ok(())
 }
 
 // Reads on to the input's end: the bytes bs that lead there are those that were read, of a reader that knows its bytes. Standard input does not, so of
@@ -240,26 +192,23 @@ fn take_input<R: Read, W: Write>(
     map: &mut [u8],
     table: &mut [u16],
     states: &mut [u32; 24586],
-    line: Line,
+    line: &mut Line,
     buffer: &mut [u8],
     space: &mut [u8],
-) -> Result<Line, Failure>
-    requires { (5 ≤ length space.old) × Short line }
-    ensures short { IfOk result (λ l. Short l) }
-    ensures led { IfOk result (λ l. (xs : List ℕ) → Keeps line xs → (bs : List ℕ) × Consumes (R.remaining stdin.old) (R.remaining stdin.new) bs
-        × Led l (site_of map.new table.new states.new) (bytes_of p space.old (session (site_of map.old table.old states.old) xs) bs)) }
-    ensures err { OnErr result ((xs : List ℕ) → Keeps line xs → (bs : List ℕ) × Came p space.old (session (site_of map.old table.old states.old) xs)
-        bs (site_of map.new table.new states.new)) }
+) -> Result<(), Failure>
+    ensures led { OnOk result ((xs : List ℕ) → Keeps line.old xs → (bs : List ℕ) × Consumes (R.remaining stdin.old) (R.remaining stdin.new) bs
+        × Led line.new (site_of map.new table.new states.new) (bytes_of p space.old (session (site_of map.old table.old states.old) xs) bs)) }
+    ensures err { OnErr result ((xs : List ℕ) → Keeps line.old xs → (bs : List ℕ)
+        × Came p space.old (session (site_of map.old table.old states.old) xs) bs (site_of map.new table.new states.new)) }
 {
-    let mut l = line;
     for _ in 0..u64::MAX {
         let n = system::read_some(stdin, buffer)?;
         if n == 0 {
             break;
         }
-        l = take_bytes(p, stdout, map, table, states, l, &buffer[..n], space)?;
+        take_bytes(p, stdout, map, table, states, line, &buffer[..n], space)?;
     }
-    Ok(l)
+    Ok(())
 }
 
 // "Each later line, an unended last one too". The first n bytes of the buffer are those that were read behind the map; the bytes bs follow them,
@@ -275,23 +224,26 @@ fn take_lines<R: Read, W: Write>(
     n: usize,
     space: &mut [u8],
 ) -> Result<(), Failure>
-    requires { (n ≤ length buffer.old) × (5 ≤ length space.old) }
+    requires { n ≤ length buffer.old }
     ensures ended { OnOk result ((bs : List ℕ) × Consumes (R.remaining stdin.old) (R.remaining stdin.new) bs
         × Ended p space.old (site_of map.old table.old states.old) (take n buffer.old ++ bs) (site_of map.new table.new states.new)) }
     ensures err { OnErr result (Left p space.old (site_of map.old table.old states.old) (site_of map.new table.new states.new)) }
 {
-    let begun = take_bytes(
+    let mut line = Line::new();
+    take_bytes(
         p,
         stdout,
         map,
         table,
         states,
-        edits::no_line(),
+        &mut line,
         &buffer[..n],
         space,
     )?;
-    let last = take_input(p, stdin, stdout, map, table, states, begun, buffer, space)?;
-    let said = edits::on_end(p, map, table, states, last, space);
+    take_input(
+        p, stdin, stdout, map, table, states, &mut line, buffer, space,
+    )?;
+    let said = edits::on_end(p, map, table, states, &line, space);
     print_said(stdout, said, table, space)
 }
 
@@ -302,27 +254,25 @@ fn take_all<R: Read, W: Write>(
     stdout: &mut W,
     table: &mut [u16],
 ) -> Result<(), Failure> {
-    let mut space = input_space();
+    let mut space = [0u8; INPUT];
     let g = gather(stdin, &mut space)?;
-    let m = g.map;
-    let n = g.read;
     let mut states = [0u32; 24586];
-    if !place_all(stdout, &space[..m], table, &mut states)? {
+    if !place_all(stdout, &space[..g.map], table, &mut states)? {
         return Ok(());
     }
-    let mut buffer = input_space();
-    let k = n - m;
-    buffer[..k].copy_from_slice(&space[m..n]);
-    let mut moves = moves_space();
+    let mut buffer = [0u8; INPUT];
+    let n = g.read - g.map;
+    buffer[..n].copy_from_slice(&space[g.map..g.read]);
+    let mut moves = [0u8; MOVES];
     take_lines(
         p,
         stdin,
         stdout,
-        &mut space[..m],
+        &mut space[..g.map],
         table,
         &mut states,
         &mut buffer,
-        k,
+        n,
         &mut moves,
     )
 }

@@ -103,13 +103,13 @@ pub fn print<W: Write>(stdout: &mut W, bytes: &[u8]) -> Result<(), Failure>
     ensures ok { OnOk result (Appends (W.contents stdout.old) (W.contents stdout.new) bytes.now) }
     ensures err { OnErr result ((n : ℕ) × Appends (W.contents stdout.old) (W.contents stdout.new) (take n bytes.now)) }
 {
-    let mut at: usize = 0;
-    while at < bytes.len() {
-        let n = write_some(stdout, &bytes[at..])?;
+    let mut rest = bytes;
+    while !rest.is_empty() {
+        let n = write_some(stdout, rest)?;
         if n == 0 {
             return Err(Failure::TakesNothing);
         }
-        at += n;
+        rest = &rest[n..];
     }
     Ok(())
 }

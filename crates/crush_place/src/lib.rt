@@ -1,22 +1,24 @@
 // The calls for C: those of the storage daemon, and those for site staff, who keep a map and its table. Placing: "the map's frames, to which
 // load's questions are put first, the group, and space where each place becomes two bytes, high byte first".
+// Each call of engine stands here once more, with its contract: the kit makes an archive for C of a crate of its own, which exports what a library has,
+// and only calls it.
 #![tactic(auto)]
 
-ghost use Rattle.std.specs.Prelude.{◌≡◌, ◌*◌, ◌<◌, ◌≤◌, length};
+ghost use Rattle.std.specs.Prelude.{◌≡◌, ◌*◌, ◌<◌, ◌≤◌, length, MatchResult};
 ghost use Rattle.definitions.specs.Lists.{over};
-ghost use Rattle.definitions.specs.Frames.{frames_in};
 ghost use Rattle.definitions.specs.Map.{map_of};
 ghost use Rattle.definitions.specs.Select.{entries_of};
 ghost use Rattle.definitions.specs.Rule.{width_of, placed_of};
 ghost use Rattle.definitions.specs.Load.{load_number};
-ghost use Rattle.text.specs.Shape.{shape_of};
 ghost use Rattle.definitions.specs.Writing.{two_bytes};
 ghost use Rattle.definitions.specs.Calls.{sizes_of, load_of, daemon_of, fill_of, edit_of, store_of, return_of, ceiling_of, write_of, day_of, drives_of};
+ghost use Rattle.door.specs.Question.{number_of};
 ghost use Rattle.engine.specs.Answers.{sizes_answer, load_answer, fill_answer, edit_answer, store_answer, ceiling_answer, write_answer, day_answer};
 ghost use Rattle.crush_place.specs.Answers.{daemon_answer, drives_answer};
 ghost use Rattle.crush_place.specs.Version.{version};
 
 use blocks::widths;
+use door::question::{Question, ask};
 use engine::day::Day;
 use engine::edit::Edited;
 use engine::fill::Filled;
@@ -25,9 +27,10 @@ use engine::load::Sizes;
 use engine::place::Placing;
 use engine::write::Written;
 use engine::{back, day, edit, fill, limit, load, place, store, write};
-use frames::{records, shape};
+use frames::records;
 use loaded::row;
-use text::Shape;
+use states::States;
+use text::Text;
 
 // The number of the first question answered no, or 0, the day's group, how many places were written, and the tries.
 #[repr(C)]
@@ -44,91 +47,91 @@ fn put_bytes(row: &[u16], out: &mut [u8])
     requires { 2 * length row.now ≤ length out.old }
     ensures { out.new ≡ over (two_bytes row.now) out.old }
 {
-    let mut i: usize = 0;
-    while i < row.len() {
-        let p = row[i];
-        let a = 2 * i;
-        let b = a + 1;
-        out[a] = (p / 256) as u8;
-        out[b] = (p % 256) as u8;
-        i += 1;
+    for (i, p) in row.iter().enumerate() {
+        out[2 * i] = (*p / 256) as u8;
+        out[2 * i + 1] = (*p % 256) as u8;
     }
 }
 
 // The list of group x in bytes over the front of the space; the row is lent to hold its W places.
-fn place_bytes(map: &[u8], s: Shape, x: u32, row: &mut [u16], out: &mut [u8]) -> u32
-    requires map_value { (load_number map.now ≡ 0) × (s ≡ shape_of (frames_in map.now)) × (length row.old ≡ width_of (map_of map.now)) }
-    requires map_in_bounds { 2 * width_of (map_of map.now) ≤ length out.old }
-    ensures { (out.new ≡ over (two_bytes (entries_of (placed_of (map_of map.now) x).places)) out.old)
-        × (result ≡ (placed_of (map_of map.now) x).tries) }
+fn place_bytes(text: &Text, x: u32, row: &mut [u16], out: &mut [u8]) -> u32
+    requires map_value { (load_number text.now ≡ 0) × (length row.old ≡ width_of (map_of text.now)) }
+    requires map_in_bounds { 2 * width_of (map_of text.now) ≤ length out.old }
+    ensures { (out.new ≡ over (two_bytes (entries_of (placed_of (map_of text.now) x).places)) out.old)
+        × (result ≡ (placed_of (map_of text.now) x).tries) }
 {
-    let tries = row::place_into(map, s, x, row);
+    let tries = row::place_into(text, x, row);
     put_bytes(row, out);
     tries
 }
 
 // The list of a group of a map that loads, in bytes: question 16, then the list.
-fn listed(map: &[u8], group: u32, out: &mut [u8]) -> Placing
-    requires { (load_number map.now ≡ 0) × (group < (map_of map.now).groups) }
-    ensures { daemon_answer result out.new ≡ daemon_of map.now group out.old }
+fn listed(text: &Text, group: u32, out: &mut [u8]) -> Result<Placing, Question>
+    requires { (load_number text.now ≡ 0) × (group < (map_of text.now).groups) }
+    ensures { MatchResult result
+        (λ p. (p.number ≡ 0) × (daemon_answer p out.new ≡ daemon_of text.now group out.old))
+        (λ q. daemon_answer (record { number = number_of q; places = 0; tries = 0 }) out.new ≡ daemon_of text.now group out.old) }
 {
-    let s = shape::shape_of(map);
-    let w = widths::width(map, s);
-    if out.len() < 2 * w {
-        return place::refused(16);
-    }
+    let w = widths::width(text);
+    ask(2 * w <= out.len(), Question::Room)?;
     let mut row = [0u16; 32];
-    let tries = place_bytes(map, s, group, &mut row[..w], out);
-    Placing {
+    let tries = place_bytes(text, group, &mut row[..w], out);
+    Ok(Placing {
         number: 0,
         places: w as u32,
         tries,
-    }
+    })
+}
+
+// What a placing that is done answers, or the first question answered no.
+fn try_place(map: &[u8], group: u32, out: &mut [u8]) -> Result<Placing, Question>
+    ensures { MatchResult result
+        (λ p. daemon_answer p out.new ≡ daemon_of map.now group out.old)
+        (λ q. daemon_answer (record { number = number_of q; places = 0; tries = 0 }) out.new ≡ daemon_of map.now group out.old) }
+{
+    let text = door::load(map)?;
+    ask(group < records::groups(text.bytes), Question::GroupBelow)?;
+    listed(&text, group, out)
 }
 
 pub fn crush_place(map: &[u8], group: u32, out: &mut [u8]) -> Placing
     ensures { daemon_answer result out.new ≡ daemon_of map.now group out.old }
 {
-    let number = door::load(map);
-    if number != 0 {
-        return place::refused(number);
+    match try_place(map, group, out) {
+        Ok(p) => p,
+        Err(q) => place::refused(q.number()),
     }
-    if records::groups(map) <= group {
-        return place::refused(15);
-    }
-    listed(map, group, out)
 }
 
-// A refusal: its number, no group and counts of zero.
-fn refused(number: u32) -> Drives
-    ensures { result ≡ record { number = number; group = 0; places = 0; tries = 0 } }
+// What a day's drives that are listed answer, or the first question answered no.
+fn try_drives(map: &[u8], show: u32, day: u32, out: &mut [u8]) -> Result<Drives, Question>
+    ensures { MatchResult result
+        (λ d. drives_answer d out.new ≡ drives_of map.now show day out.old)
+        (λ q. drives_answer (record { number = number_of q; group = 0; places = 0; tries = 0 }) out.new ≡ drives_of map.now show day out.old) }
 {
-    Drives {
-        number,
-        group: 0,
-        places: 0,
-        tries: 0,
-    }
+    let text = door::load(map)?;
+    let group = loaded::day::group_of(&text, show, day);
+    let p = listed(&text, group, out)?;
+    Ok(Drives {
+        number: 0,
+        group,
+        places: p.places,
+        tries: p.tries,
+    })
 }
 
 // The drives of a show's day, in one call: the group and its list.
 pub fn crush_day_drives(map: &[u8], show: u32, day: u32, out: &mut [u8]) -> Drives
     ensures { drives_answer result out.new ≡ drives_of map.now show day out.old }
 {
-    let number = door::load(map);
-    if number != 0 {
-        return refused(number);
-    }
-    let group = loaded::day::group_of(map, show, day);
-    let p = listed(map, group, out);
-    if p.number != 0 {
-        return refused(p.number);
-    }
-    Drives {
-        number: 0,
-        group,
-        places: p.places,
-        tries: p.tries,
+    match try_drives(map, show, day, out) {
+        Ok(d) => d,
+        Err(q) => Drives {
+            number: q.number(),
+            group: 0,
+            places: 0,
+            tries: 0,
+        },
     }
 }
 
@@ -140,7 +143,7 @@ pub fn crush_sizes_of(map: &[u8]) -> Sizes
 }
 
 // The same, and where the map loads no state is stored any more.
-pub fn crush_load(map: &[u8], states: &mut [u32; 24586]) -> Sizes
+pub fn crush_load(map: &[u8], states: &mut States) -> Sizes
     ensures { load_answer result states.new ≡ load_of map.now states.old }
 {
     load::load(map, states)
@@ -162,7 +165,7 @@ pub fn crush_edit(map: &mut [u8], table: &mut [u16], frame: &[u8], space: &mut [
 }
 
 // The map's drives stored under a name.
-pub fn crush_store(map: &[u8], states: &mut [u32; 24586], name: u16) -> u32
+pub fn crush_store(map: &[u8], states: &mut States, name: u16) -> u32
     ensures { store_answer result states.new ≡ store_of map.now states.old name }
 {
     store::store(map, states, name)
@@ -172,7 +175,7 @@ pub fn crush_store(map: &[u8], states: &mut [u32; 24586], name: u16) -> u32
 pub fn crush_return(
     map: &mut [u8],
     table: &mut [u16],
-    states: &[u32; 24586],
+    states: &States,
     name: u16,
     space: &mut [u8],
 ) -> Edited

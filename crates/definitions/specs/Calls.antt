@@ -1,13 +1,12 @@
 -- Document 01, "Questions at the door", other calls; and of each callable function what comes back: its number, its counts, and all that
 -- was lent to it to be written, as it then is. A map is lent as its frames. "A refusal returns zero counts and leaves the map, table and
 -- every buffer untouched. Beyond what is written, bytes stay."
-use Rattle.std.specs.Prelude.{Bool, true, false, ◌&&◌, List, [], ◌∷◌, ℕ, zero, suc, ◌*◌, leb, ltb, eqb, length, take}
-use Rattle.definitions.specs.declared.Mode.{Mode}
+use Rattle.std.specs.Prelude.{Bool, true, false, ◌&&◌, List, [], ◌∷◌, ℕ, zero, suc, ◌*◌, leb, ltb, eqb, length, take, Option, None, Some}
 use Rattle.definitions.specs.declared.Mode.TheVariants.{FirstN, Independent, Through}
 use Rattle.definitions.specs.declared.Action.{Action}
 use Rattle.definitions.specs.declared.Action.TheVariants.{Take, Select, Emit, Idle}
 use Rattle.definitions.specs.declared.Change.{Change}
-use Rattle.definitions.specs.declared.Change.TheVariants.{Acceptance, Weight, Malformed}
+use Rattle.definitions.specs.declared.Change.TheVariants.{Acceptance, Weight}
 use Rattle.definitions.specs.declared.Move.{Move}
 use Rattle.definitions.specs.Lists.{every, same, over, first_no}
 use Rattle.definitions.specs.Map.{Map, map_of, actions_of}
@@ -61,10 +60,10 @@ unfoldable pub independent : Map → Bool
 independent m = every not_first_n (actions_of m)
 
 -- 18. "Device present, value in range?": "weight (8), 0 to 65,535; acceptance (8), 0 to 65,536"
-unfoldable pub fits : Map → Change → Bool
-fits m (Acceptance d a) = has_device m d && leb a 65536
-fits m (Weight d w) = has_device m d && leb w 65535
-fits m Malformed = false
+unfoldable pub fits : Map → Option Change → Bool
+fits m (Some (Acceptance d a)) = has_device m d && leb a 65536
+fits m (Some (Weight d w)) = has_device m d && leb w 65535
+fits m None = false
 
 -- 19. "Table what fill gives?"
 unfoldable pub fresh : Map → List Placed → List ℕ → Bool
@@ -191,7 +190,7 @@ pub record EditCase : Type 0 where
   pub frames : List ℕ
   pub table : List ℕ
   pub space : List ℕ
-  pub change : Change
+  pub change : Option Change
   pub before : Map
   pub after : Map
   pub olds : List Placed

@@ -1,17 +1,15 @@
 -- Document 01, "Table, edits, moves": the edit frame, the map after it, where two walks part, and the moves.
-use Rattle.std.specs.Prelude.{Bool, true, false, cond, ◌&&◌, ◌||◌, List, [], ◌∷◌, ◌++◌, map, ℕ, zero, suc, eqb, length, get_or, drop}
+use Rattle.std.specs.Prelude.{Bool, true, false, cond, ◌&&◌, ◌||◌, List, [], ◌∷◌, ◌++◌, map, ℕ, zero, suc, eqb, length, get_or, drop, Option, None, Some}
 use Rattle.definitions.specs.declared.Device.{Device}
 use Rattle.definitions.specs.declared.Bucket.{Bucket}
-use Rattle.definitions.specs.declared.Drawn.{Drawn}
-use Rattle.definitions.specs.declared.Drawn.TheVariants.{Winner, Nothing}
 use Rattle.definitions.specs.declared.Verdict.{Verdict}
 use Rattle.definitions.specs.declared.Verdict.TheVariants.{Held, Rejected, Passed}
 use Rattle.definitions.specs.declared.Event.{Event}
 use Rattle.definitions.specs.declared.Event.TheVariants.{Drew, Tested}
 use Rattle.definitions.specs.declared.Change.{Change}
-use Rattle.definitions.specs.declared.Change.TheVariants.{Acceptance, Weight, Malformed}
+use Rattle.definitions.specs.declared.Change.TheVariants.{Acceptance, Weight}
 use Rattle.definitions.specs.declared.Parting.{Parting}
-use Rattle.definitions.specs.declared.Parting.TheVariants.{Same, Draw, Test}
+use Rattle.definitions.specs.declared.Parting.TheVariants.{Draw, Test}
 use Rattle.definitions.specs.declared.Move.{Move}
 use Rattle.definitions.specs.Lists.{every}
 use Rattle.definitions.specs.Map.{Map, bucket_item}
@@ -27,16 +25,16 @@ use Rattle.definitions.specs.Table.{runs_of}
 unfoldable pub edit_layout : List ℕ
 edit_layout = 4 ∷ 8 ∷ []
 
--- what a frame of this kind (33 or 34, in hexadecimal 21 or 22) and these fields asks for
-unfoldable pub change_by : ℕ → List ℕ → Change
+-- what a frame of this kind (33 or 34, in hexadecimal 21 or 22) and these fields asks for: a frame of no edit form asks for no change
+unfoldable pub change_by : ℕ → List ℕ → Option Change
 change_by kind fields =
-    cond (eqb kind 33) (Acceptance (get_or fields 0 0) (get_or fields 1 0))
-    (cond (eqb kind 34) (Weight (get_or fields 0 0) (get_or fields 1 0)) Malformed)
+    cond (eqb kind 33) (Some (Acceptance (get_or fields 0 0) (get_or fields 1 0)))
+    (cond (eqb kind 34) (Some (Weight (get_or fields 0 0) (get_or fields 1 0))) None)
 
 -- what the bytes of a frame ask for, with no byte 10 behind them: 14 digits, of kind 21 or 22
-unfoldable pub change_of : List ℕ → Change
+unfoldable pub change_of : List ℕ → Option Change
 change_of bs =
-    cond (eqb (length bs) 14 && every is_digit bs) (change_by (value 2 bs) (fields_of edit_layout (drop 2 bs))) Malformed
+    cond (eqb (length bs) 14 && every is_digit bs) (change_by (value 2 bs) (fields_of edit_layout (drop 2 bs))) None
 
 -- ---- the map after an edit
 
@@ -61,18 +59,18 @@ with_sums m =
     record { groups = m.groups; devices = m.devices; buckets = map (with_sum m) m.buckets; links = m.links; steps = m.steps }
 
 -- "A good edit makes its value the device's acceptance or weight. Bucket weights stay the sums, and nothing else in the map changes."
-unfoldable pub put : Map → Change → Map
-put m (Acceptance d a) = with_devices m (map (with_acceptance d a) m.devices)
-put m (Weight d w) = with_sums (with_devices m (map (with_weight d w) m.devices))
-put m Malformed = m
+unfoldable pub put : Map → Option Change → Map
+put m (Some (Acceptance d a)) = with_devices m (map (with_acceptance d a) m.devices)
+put m (Some (Weight d w)) = with_sums (with_devices m (map (with_weight d w) m.devices))
+put m None = m
 
 -- ---- where two walks part
 
-unfoldable pub same_drawn : Drawn → Drawn → Bool
-same_drawn (Winner i) (Winner j) = eqb i j
-same_drawn (Winner i) Nothing = false
-same_drawn Nothing (Winner j) = false
-same_drawn Nothing Nothing = true
+unfoldable pub same_drawn : Option ℕ → Option ℕ → Bool
+same_drawn (Some i) (Some j) = eqb i j
+same_drawn (Some i) None = false
+same_drawn None (Some j) = false
+same_drawn None None = true
 
 unfoldable pub same_verdict : Verdict → Verdict → Bool
 same_verdict Held Held = true
@@ -87,21 +85,20 @@ same_verdict Passed Passed = true
 
 -- "A draw ends in its winner or none; a test ends held, not accepted or passed.": the ends of two events, old and new. (Two walks that
 -- have not parted stand at one draw or at one test, so the two mixed cases do not arise.)
-unfoldable pub ends_of : Event → Event → Parting
-ends_of (Drew b r d) (Drew c s e) = cond (same_drawn d e) Same (Draw d e)
-ends_of (Drew b r d) (Tested j w) = Same
-ends_of (Tested i v) (Drew c s e) = Same
-ends_of (Tested i v) (Tested j w) = cond (same_verdict v w) Same (Test v w)
+unfoldable pub ends_of : Event → Event → Option Parting
+ends_of (Drew b r d) (Drew c s e) = cond (same_drawn d e) None (Some (Draw d e))
+ends_of (Drew b r d) (Tested j w) = None
+ends_of (Tested i v) (Drew c s e) = None
+ends_of (Tested i v) (Tested j w) = cond (same_verdict v w) None (Some (Test v w))
 
-unfoldable pub or_else : Parting → Parting → Parting
-or_else Same q = q
-or_else (Draw d e) q = Draw d e
-or_else (Test v w) q = Test v w
+unfoldable pub or_else : Option Parting → Option Parting → Option Parting
+or_else None q = q
+or_else (Some p) q = Some p
 
 -- "The cause stands where the old and new walk first part, by these ends"
-unfoldable pub parting : List Event → List Event → Parting
-parting [] fs = Same
-parting (e ∷ es) [] = Same
+unfoldable pub parting : List Event → List Event → Option Parting
+parting [] fs = None
+parting (e ∷ es) [] = None
 parting (e ∷ es) (f ∷ fs) = or_else (ends_of e f) (parting es fs)
 
 unfoldable pub is_held : Verdict → Bool
@@ -112,10 +109,10 @@ is_held Passed = false
 -- "01, the edited device passed acceptance in one only; 02, the draws differ ..; 03, the item was held before it in this select in one
 -- run only. Where 01 and 03 both apply, 03."; "Cause 03 .. looks for a device at all earlier places of the list, and for a bucket, as before,
 -- at those of its own select." The ends of a `Test` differ, so held in either is held in one only.
-unfoldable pub cause_of : Parting → ℕ
-cause_of Same = 0
-cause_of (Draw d e) = 2
-cause_of (Test v w) = cond (is_held v || is_held w) 3 1
+unfoldable pub cause_of : Option Parting → ℕ
+cause_of None = 0
+cause_of (Some (Draw d e)) = 2
+cause_of (Some (Test v w)) = cond (is_held v || is_held w) 3 1
 
 -- ---- moves
 

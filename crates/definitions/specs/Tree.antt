@@ -1,8 +1,6 @@
 -- Change 4: the tree bucket of section 3.4.3 in source document 003. A node is told by its height j, "the leaves being height 0", and its
 -- place k among the nodes of that height, from 0.
-use Rattle.std.specs.Prelude.{Bool, true, false, cond, List, ℕ, zero, suc, ◌+◌, ◌*◌, ◌/◌, ◌^◌, leb, ltb, eqb, length, get_or}
-use Rattle.definitions.specs.declared.Drawn.{Drawn}
-use Rattle.definitions.specs.declared.Drawn.TheVariants.{Winner, Nothing}
+use Rattle.std.specs.Prelude.{Bool, true, false, cond, List, ℕ, zero, suc, ◌+◌, ◌*◌, ◌/◌, ◌^◌, leb, ltb, eqb, length, get_or, Option, None, Some}
 use Rattle.definitions.specs.Hash.{hash4}
 
 -- "Child i, from 0, is the leaf labelled 2 × i + 1"; "a node at height j is labelled by an odd multiple of 2^j .., and its children's labels
@@ -41,10 +39,10 @@ module _ (seed x r item : ℕ) (weights : List ℕ) where
   leaf_from (suc j) k = leaf_from j (node_below j k)
 
   -- "A total weight of 0 draws none." The last argument says whether it is 0.
-  unfoldable pub tree_by : List ℕ → Bool → Drawn
-  tree_by items true = Nothing
-  tree_by items false = Winner (get_or items (leaf_from (height_of (length items)) 0) 0)
+  unfoldable pub tree_by : List ℕ → Bool → Option ℕ
+  tree_by items true = None
+  tree_by items false = Some (get_or items (leaf_from (height_of (length items)) 0) 0)
 
   -- "A bucket with one child draws that child, or none at weight 0.": its root is its leaf
-  unfoldable pub tree_of : List ℕ → Drawn
+  unfoldable pub tree_of : List ℕ → Option ℕ
   tree_of items = tree_by items (eqb (node_weight weights (height_of (length items)) 0) 0)

@@ -1,8 +1,6 @@
 -- Document 01, "Walk, select and rule": the walk of a rank, and, by document 02, change 1, the inner walk of a select through. A descent, a
 -- test, a turn and a rank come with their events, in the order made.
-use Rattle.std.specs.Prelude.{Bool, true, false, cond, ◌||◌, List, [], ◌∷◌, ◌++◌, ℕ, zero, suc, ◌+◌, ◌*◌, ◌%◌, ltb, eqb}
-use Rattle.definitions.specs.declared.Drawn.{Drawn}
-use Rattle.definitions.specs.declared.Drawn.TheVariants.{Winner, Nothing}
+use Rattle.std.specs.Prelude.{Bool, true, false, cond, ◌||◌, List, [], ◌∷◌, ◌++◌, ℕ, zero, suc, ◌+◌, ◌*◌, ◌%◌, ltb, eqb, Option, None, Some}
 use Rattle.definitions.specs.declared.Kind.{Kind}
 use Rattle.definitions.specs.declared.Kind.TheVariants.{Straw, Tree}
 use Rattle.definitions.specs.declared.Mode.{Mode}
@@ -36,38 +34,38 @@ pub record Descent : Type 0 where
 
 -- "Lists are compared with the definition of each bucket's own kind.": the draw of a bucket of this kind and item number, with these
 -- children and weights
-unfoldable pub draw_by : Kind → ℕ → ℕ → ℕ → ℕ → List ℕ → List ℕ → Drawn
+unfoldable pub draw_by : Kind → ℕ → ℕ → ℕ → ℕ → List ℕ → List ℕ → Option ℕ
 draw_by Straw seed x r item items weights = draw_of seed x r items weights
 draw_by Tree seed x r item items weights = tree_of seed x r item weights items
 
 -- the draw of group x at bucket b with try number r
-unfoldable pub draw_at : View → ℕ → ℕ → ℕ → Drawn
+unfoldable pub draw_at : View → ℕ → ℕ → ℕ → Option ℕ
 draw_at v x r b = draw_by (v.kind b) v.seed x r (bucket_item b) (v.children b) (v.weights b)
 
 -- the descent ends with this draw
-unfoldable pub landing : ℕ → ℕ → Drawn → Descent
+unfoldable pub landing : ℕ → ℕ → Option ℕ → Descent
 landing r b d = record { landed = record { bucket = b; drawn = d }; events = Drew b r d ∷ [] }
 
 -- this draw, and then the rest of the descent
-unfoldable pub deeper : ℕ → ℕ → Drawn → Descent → Descent
+unfoldable pub deeper : ℕ → ℕ → Option ℕ → Descent → Descent
 deeper r b d rest = record { landed = rest.landed; events = Drew b r d ∷ rest.events }
 
 -- "If the winner's type is above the wanted type t, the walk goes on in the bucket drawn": go is the descent from there, and the
 -- last argument says whether the type is above t
 unfoldable pub on_winner : (ℕ → Descent) → ℕ → ℕ → ℕ → Bool → Descent
-on_winner go r b i true = deeper r b (Winner i) (go (bucket_number i))
-on_winner go r b i false = landing r b (Winner i)
+on_winner go r b i true = deeper r b (Some i) (go (bucket_number i))
+on_winner go r b i false = landing r b (Some i)
 
 -- v, the group x, the wanted type t and the try number r
 module _ (v : View) (x t r : ℕ) where
-  unfoldable pub on_drawn : (ℕ → Descent) → ℕ → Drawn → Descent
-  on_drawn go b (Winner i) = on_winner go r b i (ltb t (v.type i))
-  on_drawn go b Nothing = landing r b Nothing
+  unfoldable pub on_drawn : (ℕ → Descent) → ℕ → Option ℕ → Descent
+  on_drawn go b (Some i) = on_winner go r b i (ltb t (v.type i))
+  on_drawn go b None = landing r b None
 
   -- the descent from bucket b, whose type is at most k. The bucket drawn has a smaller type (question 9), so k does not run out, and more
   -- than the type changes nothing (`sinks` and `descend-enough`, crate laws).
   unfoldable pub descend_in : ℕ → ℕ → Descent
-  descend_in zero b = landing r b Nothing
+  descend_in zero b = landing r b None
   descend_in (suc k) b = on_drawn (descend_in k) b (draw_at v x r b)
 
   unfoldable pub descend : ℕ → Descent
@@ -174,9 +172,9 @@ module _ (v : View) (x : ℕ) (mode : Mode) (n t : ℕ) (test : ℕ → ℕ → 
   on_type s q b es i true = tested start s b es i (test q i)
   on_type s q b es i false = untested start s es
 
-  unfoldable pub on_landed : State → ℕ → ℕ → List Event → Drawn → TurnEvents
-  on_landed s q b es (Winner i) = on_type s q b es i (eqb (v.type i) t)
-  on_landed s q b es Nothing = untested start s es
+  unfoldable pub on_landed : State → ℕ → ℕ → List Event → Option ℕ → TurnEvents
+  on_landed s q b es (Some i) = on_type s q b es i (eqb (v.type i) t)
+  on_landed s q b es None = untested start s es
 
   unfoldable pub on_descent : State → ℕ → Descent → TurnEvents
   on_descent s q d = on_landed s q d.landed.bucket d.events d.landed.drawn

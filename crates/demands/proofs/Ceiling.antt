@@ -1,5 +1,6 @@
 -- Document 02, change 7, "How much will a dead drive move?", over the contracts of load, fill, edit and ceiling: at any point of a list of calls
 -- from the map and the table as load and fill leave them.
+use Rattle.std.specs.Prelude.{Some}
 use mathlib.Core.Path.{◌≡◌, ap, ◌∙◌}
 use mathlib.Core.Bool.{true}
 use mathlib.Core.List.{List}
@@ -29,7 +30,7 @@ ceiling-answers k frames table d p q r =
 -- the calls cs were made, and left frames and table; c is the next call of edit, of the acceptance of device d, and it is good
 module _ (l : LoadCall) (f : FillCall) (cs : List AnyCall) (c : EditCall) (s₀ : Site) (rest : List ℕ) (s₁ : Site) (d a : ℕ)
     (s : Start l f s₀ rest) (i : independent (map_at s₀) ≡ true) (r : CallRun s₀ cs s₁)
-    (p : edit_frames c ≡ s₁.frames) (q : edit_table c ≡ s₁.table) (e : change_of (edit_frame c) ≡ Acceptance d a) (z : (edit_answered c).number ≡ 0) where
+    (p : edit_frames c ≡ s₁.frames) (q : edit_table c ≡ s₁.table) (e : change_of (edit_frame c) ≡ Some (Acceptance d a)) (z : (edit_answered c).number ≡ 0) where
   abbrev frames : List ℕ
   frames = s₁.frames
 
@@ -42,14 +43,14 @@ module _ (l : LoadCall) (f : FillCall) (cs : List AnyCall) (c : EditCall) (s₀ 
   -- LOWERING: the ceiling was told of that device with the map and the table that edit was lent. The moves that edit wrote are of groups whose
   -- row of that table holds the device, and their number is at most W times that of those rows, which the ceiling told.
   pub lowering-moves : (k : CeilingCall) → ceiling_frames k ≡ frames → ceiling_table k ≡ table → ceiling_device k ≡ d → a ≤ acceptance_of (map_of frames) d
-      → Within d (map_of frames) table (moves_of (map_of frames) (put (map_of frames) (Acceptance d a))) (edit_space c) (edit_answered c) (ceiling_answered k)
+      → Within d (map_of frames) table (moves_of (map_of frames) (put (map_of frames) (Some (Acceptance d a)))) (edit_space c) (edit_answered c) (ceiling_answered k)
   lowering-moves k u v w h =
       rw (ceiling-answers k frames table d u v w) (lowering rest frames table (edit_frame c) (edit_space c) (edit_answered c) standing (edit-answers c frames table p q) z d a e h)
 
   -- RAISING: the same of the map and the table that edit left
   pub raising-moves : (k : CeilingCall) → ceiling_frames k ≡ (edit_answered c).frames → ceiling_table k ≡ (edit_answered c).table → ceiling_device k ≡ d
       → acceptance_of (map_of frames) d ≤ a
-      → Within d (map_of (edit_answered c).frames) (edit_answered c).table (moves_of (map_of frames) (put (map_of frames) (Acceptance d a))) (edit_space c) (edit_answered c) (ceiling_answered k)
+      → Within d (map_of (edit_answered c).frames) (edit_answered c).table (moves_of (map_of frames) (put (map_of frames) (Some (Acceptance d a)))) (edit_space c) (edit_answered c) (ceiling_answered k)
   raising-moves k u v w h =
       rw (ceiling-answers k (edit_answered c).frames (edit_answered c).table d u v w)
       (raising rest frames table (edit_frame c) (edit_space c) (edit_answered c) standing (edit-answers c frames table p q) z d a e h)

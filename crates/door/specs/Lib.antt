@@ -1,2 +1,3 @@
+pub mod Question
 pub mod Questions
 pub mod Types

@@ -8,58 +8,49 @@ ghost use Rattle.definitions.specs.Edit.{change_of};
 ghost use Rattle.text.specs.Shape.{shape_of};
 ghost use Rattle.text.specs.Places.{splice};
 ghost use Rattle.text.specs.RoundTrip.{Framed};
+ghost use Rattle.text.specs.Rows.{device_start};
 ghost use Rattle.text.specs.Records.{no_device, no_bucket};
 ghost use Rattle.text.specs.Edit.{with_device, with_bucket, accepting, weighing, bearing, borne_by, bearing_all, Edited};
 ghost use Rattle.edit_frame.specs.Found.{FoundIs};
 ghost use Rattle.edit_frame.specs.Sums.{Numbered};
 
-use definitions::Change;
+use definitions::{Change, Device};
+use frames::records::Record;
 use frames::{digits, lines, records};
-use text::Shape;
-
-// Where a device stands among the devices.
-#[derive(Clone, Copy)]
-pub enum Found {
-    At(usize),
-    Missing,
-}
+use text::{Shape, Text};
 
 // What the bytes of a frame ask for, with no byte 10 behind them.
-pub fn change_of(f: &[u8]) -> Change
+pub fn change_of(f: &[u8]) -> Option<Change>
     ensures { result ≡ change_of f.now }
 {
     if f.len() != 14 {
-        return Change::Malformed;
+        return None;
     }
     if !digits::all_digits(f) {
-        return Change::Malformed;
+        return None;
     }
     let kind = digits::field(f, 0, 2);
     let device = digits::field(f, 2, 4);
     let value = digits::field(f, 6, 8);
     if kind == 0x21 {
-        return Change::Acceptance(device, value);
+        return Some(Change::Acceptance(device, value));
     }
     if kind == 0x22 {
-        return Change::Weight(device, value);
+        return Some(Change::Weight(device, value));
     }
-    Change::Malformed
+    None
 }
 
-// Where device d stands among the n devices of a text that the first four questions take.
-pub fn find_device(t: &[u8], n: usize, d: u32) -> Found
-    requires { Framed t.now × (n ≡ length (map_of t.now).devices) }
-    ensures { FoundIs (map_of t.now) d result }
+// Where device d stands among the devices of a text.
+pub fn find_device(text: &Text, d: u32) -> Option<usize>
+    ensures { FoundIs (map_of text.now) d result }
 {
-    let mut k: usize = 0;
-    while k < n {
-        let e = records::device(t, k);
-        if e.number == d {
-            return Found::At(k);
+    for k in 0..Device::count(text) {
+        if Device::read(text, k).number == d {
+            return Some(k);
         }
-        k += 1;
     }
-    Found::Missing
+    None
 }
 
 // Writes the eight digits of v from a on; all other bytes stay.
@@ -67,8 +58,15 @@ fn put_at(t: &mut [u8], a: usize, v: u32)
     requires { a + 8 ≤ length t.old }
     ensures { t.new ≡ splice a 8 (hex 8 v) t.old }
 {
-    let e = a + 8;
-    digits::put_field(&mut t[a..e], v);
+    digits::put_field(&mut t[a..a + 8], v);
+}
+
+// Writes v into the field of device k that stands at this place of its line.
+fn put_in_device(t: &mut [u8], k: usize, at: usize, v: u32)
+    requires { Framed t.old × (k < length (map_of t.old).devices) × (at ≤ 14) }
+    ensures { t.new ≡ splice (device_start k + at) 8 (hex 8 v) t.old }
+{
+    put_at(t, lines::GROUPS + k * lines::DEVICE + at, v);
 }
 
 // Makes v the acceptance of device k.
@@ -77,8 +75,7 @@ pub fn put_acceptance(t: &mut [u8], k: usize, v: u32)
     ensures { Edited t.new
         (with_device k (accepting (get_or (map_of t.old).devices k no_device) v) (map_of t.old)) }
 {
-    let a = lines::GROUPS + k * lines::DEVICE + records::ACCEPTANCE_AT;
-    put_at(t, a, v);
+    put_in_device(t, k, records::ACCEPTANCE_AT, v);
 }
 
 // Makes v the weight of device k.
@@ -87,11 +84,11 @@ pub fn put_weight(t: &mut [u8], k: usize, v: u32)
     ensures { Edited t.new
         (with_device k (weighing (get_or (map_of t.old).devices k no_device) v) (map_of t.old)) }
 {
-    let a = lines::GROUPS + k * lines::DEVICE + records::WEIGHT_AT;
-    put_at(t, a, v);
+    put_in_device(t, k, records::WEIGHT_AT, v);
 }
 
 // Makes v the weight written of bucket k.
+// The shape beside the bytes, here and below, and no Text: a Text lends its bytes for reading only.
 fn put_sum(t: &mut [u8], s: Shape, k: usize, v: u32)
     requires { Framed t.old × (s ≡ shape_of (frames_in t.old)) × (k < length (map_of t.old).buckets) }
     ensures { Edited t.new
@@ -103,7 +100,7 @@ fn put_sum(t: &mut [u8], s: Shape, k: usize, v: u32)
 
 // Makes the weight written of bucket k what the sums have of its number. Digits are written only where it is another: of the buckets above an
 // edited drive.
-fn bring_up<'a, 'b>(t: &'a mut [u8], s: Shape, k: usize, sums: &'b [u32])
+fn bring_up(t: &mut [u8], s: Shape, k: usize, sums: &[u32])
     requires framed { Framed t.old × (s ≡ shape_of (frames_in t.old)) × (k < length (map_of t.old).buckets) }
     requires no_bucket_in_bounds { (get_or (map_of t.old).buckets k no_bucket).number < length sums.now }
     ensures { Edited t.new (with_bucket k (borne_by sums.now (get_or (map_of t.old).buckets k no_bucket)) (map_of t.old)) }
@@ -117,14 +114,11 @@ fn bring_up<'a, 'b>(t: &'a mut [u8], s: Shape, k: usize, sums: &'b [u32])
 }
 
 // The same of each bucket.
-pub fn put_sums<'a, 'b>(t: &'a mut [u8], s: Shape, sums: &'b [u32])
+pub fn put_sums(t: &mut [u8], s: Shape, sums: &[u32])
     requires { Framed t.old × (s ≡ shape_of (frames_in t.old)) × Numbered (length sums.now) (map_of t.old) }
     ensures { Edited t.new (bearing_all sums.now (map_of t.old)) }
 {
-    let n = s.buckets;
-    let mut k: usize = 0;
-    while k < n {
+    for k in 0..s.buckets {
         bring_up(t, s, k, sums);
-        k += 1;
     }
 }

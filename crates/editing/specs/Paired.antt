@@ -1,8 +1,7 @@
 -- The plan, the rule and the values of a map before an edit or a return and after it. Assumes nothing.
-use Rattle.std.specs.Prelude.{◌≡◌, refl, true, List, ℕ, ◌≤◌, length}
+use Rattle.std.specs.Prelude.{◌≡◌, refl, true, List, ℕ, ◌≤◌, length, Option, None}
 use Rattle.std.proofs.Common.{sym, ap, ◌∙◌}
 use Rattle.definitions.specs.declared.Change.{Change}
-use Rattle.definitions.specs.declared.Change.TheVariants.{Malformed}
 use Rattle.definitions.specs.Map.{Map, actions_of}
 use Rattle.definitions.specs.View.{view_of}
 use Rattle.definitions.specs.Rule.{width_of}
@@ -10,7 +9,7 @@ use Rattle.definitions.specs.Edit.{put}
 use Rattle.definitions.specs.Calls.{independent, fits}
 use Rattle.laws.specs.Loadable.{Loadable, put-loadable, put-groups, put-width}
 use Rattle.hierarchy.specs.declared.Rule.{Rule}
-use Rattle.hierarchy.specs.Arrays.{view_in, Sound, Flagged, actions_in}
+use Rattle.hierarchy.specs.Arrays.{view_in, Flagged, actions_in}
 use Rattle.hierarchy.specs.Tables.{Tabled}
 use Rattle.compile.specs.Reading.{no-edit}
 use Rattle.compile.specs.Weighing.{bucket_weight}
@@ -27,14 +26,14 @@ pub record Paired (m m' : Map) (p : Pair) : Type 0 where
   pub loads : Tabled p.loads 256 (bucket_weight m')
 
 -- from what is ensured of each values, and of the rule, which both have
-pub paired : (m m' : Map) (plan old new loads : List ℕ) (rule : Rule) → actions_of m ≡ actions_of m' → view_in plan old ≡ view_of (put m Malformed)
-    → view_in plan new ≡ view_of m' → Tabled loads 256 (bucket_weight m') → Sound plan → Flagged plan old → Flagged plan new
+pub paired : (m m' : Map) (plan old new loads : List ℕ) (rule : Rule) → actions_of m ≡ actions_of m' → view_in plan old ≡ view_of (put m None)
+    → view_in plan new ≡ view_of m' → Tabled loads 256 (bucket_weight m') → Flagged plan old → Flagged plan new
     → (actions_in rule ≡ actions_of m) × (rule.len ≡ length m.steps) × (rule.len ≤ 16)
     → Paired m m' (record { plan = plan; old = old; new = new; loads = loads; rule = rule })
-paired m m' plan old new loads rule a e e' l s f f' r =
+paired m m' plan old new loads rule a e e' l f f' r =
     record {
-      old = compiled-from m m plan old rule refl (e ∙ ap view_of (no-edit m)) s f r;
-      new = compiled-from m m' plan new rule a e' s f' r;
+      old = compiled-from m m plan old rule refl (e ∙ ap view_of (no-edit m)) f r;
+      new = compiled-from m m' plan new rule a e' f' r;
       loads = l;
     }
 
@@ -50,7 +49,7 @@ pub record Asked (m m' : Map) (k w : ℕ) : Type 0 where
   pub width' : width_of m' ≡ width_of m
 
 -- of an edit that fits
-pub asked-edit : (m : Map) (c : Change) (k w : ℕ) → Loadable m → fits m c ≡ true → independent m ≡ true → k ≡ m.groups → w ≡ width_of m
+pub asked-edit : (m : Map) (c : Option Change) (k w : ℕ) → Loadable m → fits m c ≡ true → independent m ≡ true → k ≡ m.groups → w ≡ width_of m
     → Asked m (put m c) k w
 asked-edit m c k w L f i g e =
     record {

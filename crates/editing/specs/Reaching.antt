@@ -1,5 +1,5 @@
 -- In which groups an edit of an acceptance can move places, by the values that the code runs by: the ceiling's law. Assumes nothing.
-use Rattle.std.specs.Prelude.{◌≡◌, refl, Bool, true, false, cond, List, ℕ, ◌<◌, leb, get_or}
+use Rattle.std.specs.Prelude.{◌≡◌, refl, Bool, true, false, cond, List, ℕ, ◌<◌, leb, get_or, Option, Some}
 use Rattle.std.proofs.Math.Path.{sym, ap}
 use Rattle.std.proofs.Common.{◌∙◌, subst, arith, leb-true, leb-false}
 use Rattle.definitions.specs.declared.Change.{Change}
@@ -27,12 +27,12 @@ abbrev pub reach_of : ℕ → ℕ → ℕ → Reach
 reach_of d before after = cond (leb after before) (Before d) (After d)
 
 -- an edit of an acceptance keeps to its reach
-abbrev pub Reaches : List ℕ → List ℕ → List ℕ → Rule → ℕ → ℕ → Change → Type 0
+abbrev pub Reaches : List ℕ → List ℕ → List ℕ → Rule → ℕ → ℕ → Option Change → Type 0
 Reaches plan old new rule groups w c =
-    (d v : ℕ) → c ≡ Acceptance d v → (d < 1024) × ((g : ℕ) → g < groups → Within (reach_of d (get_or old d 0) v) plan old new rule w g)
+    (d v : ℕ) → c ≡ Some (Acceptance d v) → (d < 1024) × ((g : ℕ) → g < groups → Within (reach_of d (get_or old d 0) v) plan old new rule w g)
 
-module _ (m : Map) (d v k w : ℕ) (p : Pair) (P : Paired m (put m (Acceptance d v)) p) (A : Asked m (put m (Acceptance d v)) k w)
-    (fit : fits m (Acceptance d v) ≡ true) where
+module _ (m : Map) (d v k w : ℕ) (p : Pair) (P : Paired m (put m (Some (Acceptance d v))) p) (A : Asked m (put m (Some (Acceptance d v))) k w)
+    (fit : fits m (Some (Acceptance d v)) ≡ true) where
   small : d < 1024
   unfolding fits
   small = device-number m A.loadable d (both (has_device m d) (leb v 65536) fit).0
@@ -41,8 +41,8 @@ module _ (m : Map) (d v k w : ℕ) (p : Pair) (P : Paired m (put m (Acceptance d
   unfolding view_of
   old-is = sym (section-front 1024 d p.old small) ∙ ap (λ (o : View). o.acceptance d) P.old.view
 
-  B : Between p.plan p.old p.new p.rule k w m (put m (Acceptance d v))
-  B = between m (put m (Acceptance d v)) k w p P A
+  B : Between p.plan p.old p.new p.rule k w m (put m (Some (Acceptance d v)))
+  B = between m (put m (Some (Acceptance d v))) k w p P A
 
   within : (g : ℕ) → g < k → Within (reach_of d (get_or p.old d 0) v) p.plan p.old p.new p.rule w g
   within = go (leb v (get_or p.old d 0)) refl
@@ -51,10 +51,10 @@ module _ (m : Map) (d v k w : ℕ) (p : Pair) (P : Paired m (put m (Acceptance d
       go true e = held-before m _ B d (lowered m d v A.loadable A.only fit (omega (arith, leb-true v (get_or p.old d 0) e, old-is)))
       go false e = held_after m _ B d (raised m d v A.loadable A.only fit (omega (arith, leb-false v (get_or p.old d 0) e, old-is)))
 
-pub reaches : (m : Map) (c : Change) (k w : ℕ) (p : Pair) → Paired m (put m c) p → Asked m (put m c) k w → fits m c ≡ true
+pub reaches : (m : Map) (c : Option Change) (k w : ℕ) (p : Pair) → Paired m (put m c) p → Asked m (put m c) k w → fits m c ≡ true
     → Reaches p.plan p.old p.new p.rule k w c
 reaches m c k w p P A f d v e =
-    let P' = subst (λ (x : Change). Paired m (put m x) p) e P in
-    let A' = subst (λ (x : Change). Asked m (put m x) k w) e A in
-    let f' = subst (λ (x : Change). fits m x ≡ true) e f in
+    let P' = subst (λ (x : Option Change). Paired m (put m x) p) e P in
+    let A' = subst (λ (x : Option Change). Asked m (put m x) k w) e A in
+    let f' = subst (λ (x : Option Change). fits m x ≡ true) e f in
     (small m d v k w p P' A' f', within m d v k w p P' A' f')

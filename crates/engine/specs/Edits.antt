@@ -1,5 +1,5 @@
 -- What edit answers, question by question: laws of its definition, for the proofs of the engine. Assumes nothing.
-use Rattle.std.specs.Prelude.{◌≡◌, true, false, List, ℕ, ◌*◌, ◌<◌, ◌≤◌, length}
+use Rattle.std.specs.Prelude.{◌≡◌, true, false, List, ℕ, ◌*◌, ◌<◌, ◌≤◌, length, Option}
 use borrow.Author.Tests.{le-leb, lt-leb}
 use Rattle.definitions.specs.declared.Change.{Change}
 use Rattle.definitions.specs.Lists.{over, first_no}
@@ -20,7 +20,7 @@ module _ (f t e s : List ℕ) where
   abbrev m : Map
   m = map_of f
 
-  abbrev c : Change
+  abbrev c : Option Change
   c = change_of e
 
   pub edit-14 : (load_number f ≡ 0 → ⊥) → edit_of f t e s ≡ refused_edit 14 f t s

@@ -6,3 +6,4 @@ pub mod Edits
 pub mod Limits
 pub mod Returns
 pub mod Stores
+pub mod Rows

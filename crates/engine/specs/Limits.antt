@@ -1,6 +1,6 @@
 -- What the ceiling answers, question by question, and behind them from what is found of the table: laws of its definition, for the proofs of the
 -- engine. Assumes nothing.
-use Rattle.std.specs.Prelude.{◌≡◌, Bool, true, false, List, ◌++◌, ℕ, ◌*◌, ◌<◌, ◌≤◌, length, take, drop}
+use Rattle.std.specs.Prelude.{◌≡◌, Bool, true, false, Some, None, List, ◌++◌, ℕ, ◌*◌, ◌<◌, ◌≤◌, length, take, drop}
 use Rattle.std.proofs.Common.{sym, ap, ap₂, ◌∙◌, subst, take-append-drop}
 use borrow.Author.Tests.{le-leb, lt-leb}
 use Rattle.definitions.specs.Lists.{same, first_no}
@@ -15,8 +15,6 @@ use Rattle.laws.specs.Counting.{at-number}
 use Rattle.laws.specs.Loadable.{Loadable}
 use Rattle.text.specs.Records.{no_device}
 use Rattle.text.specs.Agreement.{loaded-map}
-use Rattle.edit_frame.specs.declared.Found.{Found}
-use Rattle.edit_frame.specs.declared.Found.TheVariants.{At, Missing}
 use Rattle.edit_frame.specs.Found.{FoundIs}
 use Rattle.hierarchy.specs.declared.Rule.{Rule}
 use Rattle.ceiling.specs.Rows.{rows_holding, front-holders}
@@ -71,13 +69,13 @@ module _ (f t : List ℕ) (d : ℕ) where
 -- ---- question 18
 
 -- what a search says where it found the device, and where it did not
-pub found-there : (m : Map) (d : ℕ) (f : Found) (k : ℕ) → f ≡ At k → FoundIs m d f → has_device m d ≡ true
+pub found-there : (m : Map) (d k : ℕ) → FoundIs m d (Some k) → has_device m d ≡ true
 unfolding FoundIs has_device
-found-there m d f k e p = let q = subst (FoundIs m d) e p in at-number (λ x. x.number) no_device d m.devices k q.0 q.1
+found-there m d k q = at-number (λ x. x.number) no_device d m.devices k q.0 q.1
 
-pub found_none : (m : Map) (d : ℕ) (f : Found) → f ≡ Missing → FoundIs m d f → has_device m d ≡ false
+pub found_none : (m : Map) (d : ℕ) → FoundIs m d None → has_device m d ≡ false
 unfolding FoundIs
-found_none m d f e p = subst (FoundIs m d) e p
+found_none m d p = p
 
 -- ---- question 19, and the count
 

@@ -1,5 +1,5 @@
 -- What return answers, question by question, and where the state of a name was found: laws for the proofs of the engine. Assumes nothing.
-use Rattle.std.specs.Prelude.{◌≡◌, true, false, List, ℕ, ◌+◌, ◌*◌, ◌/◌, ◌<◌, ◌≤◌, ltb, get_or, drop}
+use Rattle.std.specs.Prelude.{◌≡◌, true, false, None, Some, List, ℕ, ◌+◌, ◌*◌, ◌/◌, ◌<◌, ◌≤◌, ltb, get_or, drop}
 use Rattle.std.proofs.Math.Path.{sym, ap}
 use Rattle.std.proofs.Common.{ap₂, subst, ◌∙◌, arith, mul-le-mul_right}
 use Rattle.std.proofs.Math.ListN.{length}
@@ -17,6 +17,7 @@ use Rattle.definitions.specs.Calls.{whole_with, room_for_table, independent, fre
 use Rattle.keeping.specs.States.{how-many, each-has, stated-is, named-fits}
 use Rattle.survey.specs.declared.surveys.Findings.{Findings}
 use Rattle.survey.specs.Between.{Answers}
+use Rattle.moves.specs.declared.applies.Mover.TheVariants.{Return}
 use Rattle.moves.specs.Changes.{told-length}
 use Rattle.states.specs.Words.{place_of, named-place, devices-named}
 use Rattle.returning.specs.Returning.{drives_at, Spelt}
@@ -106,25 +107,25 @@ module _ (f t ws : List ℕ) (x : ℕ) (s : List ℕ) where
             return-0 h = simp (l, le-leb (m.groups * width_of m) (length t) r, i, k, q, h)
 
           -- from what a survey found
-          module _ (o : Findings) (A : Answers m m' t o) where
-            moves : o.fresh ≡ true → o.moves ≡ length vs
-            moves h = A.moves h ∙ sym (told-length true (moves_of m m'))
+          pub stale : Answers m m' t None → (a : Edited) → a ≡ record { number = 19; moves = 0 } → edit_answer a f t s ≡ return_of f t ws x s
+          stale A a p = ap (λ (y : Edited). edit_answer y f t s) p ∙ sym (return-19 A)
 
-            pub stale : o.fresh ≡ false → (a : Edited) → a ≡ record { number = 19; moves = 0 } → edit_answer a f t s ≡ return_of f t ws x s
-            stale h a p = ap (λ (y : Edited). edit_answer y f t s) p ∙ sym (return-19 (sym A.fresh ∙ h))
+          module _ (o : Findings) (A : Answers m m' t (Some o)) where
+            moves : o.moves ≡ length vs
+            moves = A.1 ∙ sym (told-length Return (moves_of m m'))
 
-            pub short : o.fresh ≡ true → length s / 23 < o.moves → (a : Edited) → a ≡ record { number = 20; moves = 0 } → edit_answer a f t s ≡ return_of f t ws x s
+            pub short : length s / 23 < o.moves → (a : Edited) → a ≡ record { number = 20; moves = 0 } → edit_answer a f t s ≡ return_of f t ws x s
             unfolding room_for_moves
-            short h w a p =
+            short w a p =
                 ap (λ (y : Edited). edit_answer y f t s) p
-                ∙ sym (return-20 (sym A.fresh ∙ h) (lt-leb _ (length s) (subst (λ (n : ℕ). length s < 23 * n) (moves h) (no-room-for (length s) o.moves w))))
+                ∙ sym (return-20 A.0 (lt-leb _ (length s) (subst (λ (n : ℕ). length s < 23 * n) moves (no-room-for (length s) o.moves w))))
 
-            pub done : o.fresh ≡ true → o.moves ≤ length s / 23 → (f' t' s' : List ℕ) → f' ≡ map_text m' → t' ≡ over (table_of m') t
+            pub done : o.moves ≤ length s / 23 → (f' t' s' : List ℕ) → f' ≡ map_text m' → t' ≡ over (table_of m') t
                 → s' ≡ over (moves_bytes vs) s → edit_answer (record { number = 0; moves = o.moves }) f' t' s' ≡ return_of f t ws x s
             unfolding room_for_moves
-            done h w f' t' s' a b d =
-                rw (a, b, d, moves h)
-                (sym (return-0 (sym A.fresh ∙ h) (le-leb _ (length s) (subst (λ (n : ℕ). 23 * n ≤ length s) (moves h) (room_for (length s) o.moves w)))))
+            done w f' t' s' a b d =
+                rw (a, b, d, moves)
+                (sym (return-0 A.0 (le-leb _ (length s) (subst (λ (n : ℕ). 23 * n ≤ length s) moves (room_for (length s) o.moves w)))))
 
 pub refuses : (n : ℕ) (a : Edited) (f t ws : List ℕ) (x : ℕ) (s : List ℕ) → a ≡ record { number = n; moves = 0 } → return_of f t ws x s ≡ refused_edit n f t s
     → edit_answer a f t s ≡ return_of f t ws x s

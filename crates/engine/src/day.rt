@@ -3,6 +3,8 @@ ghost use Rattle.std.specs.Prelude.{◌≡◌};
 ghost use Rattle.definitions.specs.Calls.{day_of};
 ghost use Rattle.engine.specs.Answers.{day_answer};
 
+use crate::asked;
+
 // 14 or 0, and the group.
 #[repr(C)]
 #[derive(Clone, Copy)]
@@ -14,14 +16,14 @@ pub struct Day {
 pub fn day_group(map: &[u8], show: u32, day: u32) -> Day
     ensures { day_answer result ≡ day_of map.now show day }
 {
-    if door::load(map) != 0 {
-        return Day {
-            number: 14,
+    match asked::whole(map) {
+        Ok(text) => Day {
+            number: 0,
+            group: loaded::day::group_of(&text, show, day),
+        },
+        Err(q) => Day {
+            number: q.number(),
             group: 0,
-        };
-    }
-    Day {
-        number: 0,
-        group: loaded::day::group_of(map, show, day),
+        },
     }
 }

@@ -1,11 +1,11 @@
 // Filling a table: "Row g of the table holds the W places of group g".
-ghost use Rattle.std.specs.Prelude.{◌≡◌};
+ghost use Rattle.std.specs.Prelude.{◌≡◌, MatchResult};
 ghost use Rattle.definitions.specs.Calls.{fill_of};
+ghost use Rattle.door.specs.Question.{number_of};
 ghost use Rattle.engine.specs.Answers.{fill_answer};
 
-use blocks::widths;
-use definitions::Change;
-use frames::{records, shape};
+use crate::asked;
+use door::question::Question;
 
 // The number of the first question answered no, or 0, and how many places were written.
 #[repr(C)]
@@ -15,27 +15,27 @@ pub struct Filled {
     pub places: usize,
 }
 
+// How many places were written, or the first question answered no.
+fn try_fill(map: &[u8], table: &mut [u16]) -> Result<usize, Question>
+    ensures { MatchResult result
+        (λ n. fill_answer (record { number = 0; places = n }) table.new ≡ fill_of map.now table.old)
+        (λ q. fill_answer (record { number = number_of q; places = 0 }) table.new ≡ fill_of map.now table.old) }
+{
+    let text = asked::whole(map)?;
+    let rows = asked::rows_in(&text, table)?;
+    let h = compile::compile(&text, None);
+    table::fill_rows(&h.plan, &h.values, h.rule, rows.groups, rows.width, table);
+    Ok(rows.places)
+}
+
 pub fn fill(map: &[u8], table: &mut [u16]) -> Filled
     ensures { fill_answer result table.new ≡ fill_of map.now table.old }
 {
-    if door::load(map) != 0 {
-        return Filled {
-            number: 14,
+    match try_fill(map, table) {
+        Ok(places) => Filled { number: 0, places },
+        Err(q) => Filled {
+            number: q.number(),
             places: 0,
-        };
+        },
     }
-    let s = shape::shape_of(map);
-    let groups = records::groups(map);
-    let w = widths::width(map, s);
-    let places = groups as usize * w;
-    if table.len() < places {
-        return Filled {
-            number: 16,
-            places: 0,
-        };
-    }
-    let h = compile::compile(map, s, Change::Malformed);
-    let rule = h.rule;
-    table::fill_rows(&h.plan, &h.values, rule, groups, w, table);
-    Filled { number: 0, places }
 }

@@ -2,6 +2,7 @@
 // zero, and alters nothing.
 #![tactic(auto)]
 
+pub mod asked;
 pub mod back;
 pub mod day;
 pub mod edit;

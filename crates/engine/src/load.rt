@@ -5,8 +5,8 @@ ghost use Rattle.definitions.specs.States.{words_of};
 ghost use Rattle.definitions.specs.Calls.{sizes_of, load_of};
 ghost use Rattle.engine.specs.Answers.{sizes_answer, load_answer};
 
-use blocks::widths;
-use frames::{records, shape};
+use crate::asked;
+use states::States;
 
 // The number of the first question answered no, or 0, and the map's groups and its width, or zeros.
 #[repr(C)]
@@ -21,21 +21,20 @@ pub struct Sizes {
 pub fn sizes_of(map: &[u8]) -> Sizes
     ensures { sizes_answer result ≡ sizes_of map.now }
 {
-    let number = door::load(map);
-    if number != 0 {
-        return Sizes {
-            number,
+    match door::load(map) {
+        Ok(text) => {
+            let rows = asked::rows_of(&text);
+            Sizes {
+                number: 0,
+                groups: rows.groups,
+                places: rows.width as u32,
+            }
+        }
+        Err(q) => Sizes {
+            number: q.number(),
             groups: 0,
             places: 0,
-        };
-    }
-    let s = shape::shape_of(map);
-    let groups = records::groups(map);
-    let w = widths::width(map, s);
-    Sizes {
-        number: 0,
-        groups,
-        places: w as u32,
+        },
     }
 }
 
@@ -49,7 +48,7 @@ fn empty(states: &mut [u32])
 }
 
 // Loads a map: puts load's questions, tells its sizes, and empties the states. A refusal leaves them.
-pub fn load(frames: &[u8], states: &mut [u32; 24586]) -> Sizes
+pub fn load(frames: &[u8], states: &mut States) -> Sizes
     ensures { load_answer result states.new ≡ load_of frames.now states.old }
 {
     let r = sizes_of(frames);

@@ -1,2 +1,3 @@
 -- What the contracts of this crate say beside the definitions, and its laws.
 pub mod Words
+pub mod Each

@@ -13,33 +13,18 @@ pub fn is_digit(b: u8) -> bool
 pub fn all_digits(t: &[u8]) -> bool
     ensures { result ≡ every is_digit t.now }
 {
-    let mut i: usize = 0;
-    while i < t.len() {
-        if !is_digit(t[i]) {
-            return false;
-        }
-        i += 1;
-    }
-    true
+    t.iter().all(|b| is_digit(*b))
 }
 
 // The value of a digit; 0 of any other byte, so that reading needs no test.
 pub fn digit(b: u8) -> u32
     ensures { (result ≡ digit_value b) × (result < 16) }
 {
-    if b < 48 {
-        return 0;
+    match b {
+        b'0'..=b'9' => (b - b'0') as u32,
+        b'a'..=b'f' => (b - b'a') as u32 + 10,
+        _ => 0,
     }
-    if b <= 57 {
-        return (b - 48) as u32;
-    }
-    if b < 97 {
-        return 0;
-    }
-    if b <= 102 {
-        return (b - 87) as u32;
-    }
-    0
 }
 
 pub fn char_of(v: u32) -> u8
@@ -58,12 +43,9 @@ pub fn field(s: &[u8], at: usize, n: usize) -> u32
     ensures { result ≡ value n (drop at s.now) }
 {
     let mut v: u32 = 0;
-    let mut i: usize = 0;
-    while i < n {
-        let p = at + i;
-        let d = digit(s[p]);
+    for i in 0..n {
+        let d = digit(s[at + i]);
         v = v * 16 + d;
-        i += 1;
     }
     v
 }
@@ -74,10 +56,8 @@ pub fn put_field(out: &mut [u8], v: u32)
     ensures { out.new ≡ hex (length out.old) v }
 {
     let mut w = v;
-    let mut i = out.len();
-    while 0 < i {
-        i -= 1;
+    for i in (0..out.len()).rev() {
         out[i] = char_of(w % 16);
-        w = w / 16;
+        w /= 16;
     }
 }

@@ -32,10 +32,8 @@ pub fn all_allowed(t: &[u8]) -> bool
     ensures { result ≡ every allowed t.now }
 {
     let mut all = true;
-    let mut i: usize = 0;
-    while i < t.len() {
-        all = all & is_allowed(t[i]);
-        i += 1;
+    for b in t {
+        all &= is_allowed(*b);
     }
     all
 }
@@ -66,6 +64,7 @@ pub fn line_end(t: &[u8], at: usize) -> usize
         × (lines_of (drop at t.now) ≡ take (result - at) (drop at t.now) ∷ lines_of (drop (result + 1) t.now)) }
 {
     let mut e = at;
+    // No `position`: it would ask for the slice's end at each byte, half as many instructions again (measured).
     while t[e] != 10 {
         e += 1;
     }

@@ -1,15 +1,17 @@
 // The records of a text that the first four questions take, each read at its place. Such a text has its frames in order of kind, so the
 // counts in a Shape give the place of each.
-ghost use Rattle.std.specs.Prelude.{◌≡◌, ◌<◌, length, get_or};
+ghost use Rattle.std.specs.Prelude.{◌≡◌, ◌<◌, ℕ, Bool, List, length, get_or};
+ghost use Rattle.definitions.specs.Lists.{every, linked};
 ghost use Rattle.definitions.specs.Frames.{frames_in};
-ghost use Rattle.definitions.specs.Map.{map_of};
+ghost use Rattle.definitions.specs.Map.{Map, map_of};
 ghost use Rattle.text.specs.Shape.{shape_of};
 ghost use Rattle.text.specs.RoundTrip.{Framed};
+ghost use Rattle.frames.specs.Each.{Asked, Answers, AskedPairs, AnswersPairs};
 ghost use Rattle.text.specs.Records.{no_device, no_bucket, no_link, no_step};
 
 use crate::{digits, lines, words};
 use definitions::{Bucket, Device, Link, Step};
-use text::Shape;
+use text::{Shape, Text};
 
 // Where a device's weight and its acceptance stand in its line.
 pub const WEIGHT_AT: usize = 6;
@@ -40,24 +42,6 @@ pub fn device(t: &[u8], k: usize) -> Device
     }
 }
 
-// The number of device k, for those who need no more of it.
-pub fn device_number(t: &[u8], k: usize) -> u32
-    requires { Framed t.now × (k < length (map_of t.now).devices) }
-    ensures { result ≡ (get_or (map_of t.now).devices k no_device).number }
-{
-    let at = lines::GROUPS + k * lines::DEVICE;
-    words::read_four(t, at + 2)
-}
-
-// And its weight.
-pub fn device_weight(t: &[u8], k: usize) -> u32
-    requires { Framed t.now × (k < length (map_of t.now).devices) }
-    ensures { result ≡ (get_or (map_of t.now).devices k no_device).weight }
-{
-    let at = lines::GROUPS + k * lines::DEVICE;
-    words::read_eight(t, at + WEIGHT_AT)
-}
-
 // Bucket k.
 pub fn bucket(t: &[u8], s: Shape, k: usize) -> Bucket
     requires { Framed t.now × (s ≡ shape_of (frames_in t.now)) × (k < length (map_of t.now).buckets) }
@@ -70,15 +54,6 @@ pub fn bucket(t: &[u8], s: Shape, k: usize) -> Bucket
         kind: digits::field(t, at + 8, 2),
         weight: words::read_eight(t, at + SUM_AT),
     }
-}
-
-// The number of bucket k, for those who need no more of it.
-pub fn bucket_number(t: &[u8], s: Shape, k: usize) -> u32
-    requires { Framed t.now × (s ≡ shape_of (frames_in t.now)) × (k < length (map_of t.now).buckets) }
-    ensures { result ≡ (get_or (map_of t.now).buckets k no_bucket).number }
-{
-    let at = lines::GROUPS + s.devices * lines::DEVICE + k * lines::BUCKET;
-    words::read_four(t, at + 2)
 }
 
 // Link k.
@@ -112,4 +87,113 @@ pub fn step(t: &[u8], s: Shape, k: usize) -> Step
         ty: digits::field(t, at + 6, 2),
         bucket: words::read_four(t, at + 8),
     }
+}
+
+// What the frames of one kind hold.
+pub trait Record: Copy {
+    // those of a map, in order
+    ghost listed: { Map → List Self };
+
+    // what stands behind the last
+    ghost none: { Self };
+
+    // How many the text has.
+    fn count(text: &Text) -> usize
+        ensures { result ≡ length (listed (map_of text.now)) };
+
+    // Number k of them.
+    fn read(text: &Text, k: usize) -> Self
+        requires { k < length (listed (map_of text.now)) }
+        ensures { result ≡ get_or (listed (map_of text.now)) k none };
+}
+
+impl Record for Device {
+    ghost listed = { λ m. m.devices };
+
+    ghost none = { no_device };
+
+    fn count(text: &Text) -> usize {
+        text.shape.devices
+    }
+
+    fn read(text: &Text, k: usize) -> Device {
+        device(text.bytes, k)
+    }
+}
+
+impl Record for Bucket {
+    ghost listed = { λ m. m.buckets };
+
+    ghost none = { no_bucket };
+
+    fn count(text: &Text) -> usize {
+        text.shape.buckets
+    }
+
+    fn read(text: &Text, k: usize) -> Bucket {
+        bucket(text.bytes, text.shape, k)
+    }
+}
+
+impl Record for Link {
+    ghost listed = { λ m. m.links };
+
+    ghost none = { no_link };
+
+    fn count(text: &Text) -> usize {
+        text.shape.links
+    }
+
+    fn read(text: &Text, k: usize) -> Link {
+        link(text.bytes, text.shape, k)
+    }
+}
+
+impl Record for Step {
+    ghost listed = { λ m. m.steps };
+
+    ghost none = { no_step };
+
+    fn count(text: &Text) -> usize {
+        text.shape.steps
+    }
+
+    fn read(text: &Text, k: usize) -> Step {
+        step(text.bytes, text.shape, k)
+    }
+}
+
+// Does each record of a kind pass the test?
+pub fn every<R: Record, F: Fn(R) -> bool>(text: &Text, test: F) -> bool
+    requires { Asked (F.pre test) (R.listed (map_of text.now)) R.none }
+    ensures { (p : R → Bool) → Answers (F.post test) (R.listed (map_of text.now)) R.none p
+        → result ≡ every p (R.listed (map_of text.now)) }
+{
+    for k in 0..R::count(text) {
+        if !test(R::read(text, k)) {
+            return false;
+        }
+    }
+    true
+}
+
+// Does each record of a kind stand to the one behind it as the test says?
+pub fn linked<R: Record, F: Fn(R, R) -> bool>(text: &Text, test: F) -> bool
+    requires { AskedPairs (F.pre test) (R.listed (map_of text.now)) R.none }
+    ensures { (p : R → R → Bool) → AnswersPairs (F.post test) (R.listed (map_of text.now)) R.none p
+        → result ≡ linked p (R.listed (map_of text.now)) }
+{
+    let n = R::count(text);
+    if n == 0 {
+        return true;
+    }
+    let mut last = R::read(text, 0);
+    for k in 1..n {
+        let next = R::read(text, k);
+        if !test(last, next) {
+            return false;
+        }
+        last = next;
+    }
+    true
 }

@@ -29,27 +29,18 @@ pub fn line_at(t: &[u8], at: usize) -> Line
     Line { kind, next }
 }
 
-fn one(a: usize, b: usize) -> usize
-    ensures { (result ≡ is a b) × (result ≤ 1) }
-{
-    if a == b {
-        return 1;
-    }
-    0
-}
-
 // One line more, of kind k.
 pub fn count(s: Shape, k: usize) -> Shape
     requires { Small s (2 ^ 63) }
     ensures { result ≡ more s k }
 {
     Shape {
-        groups: s.groups + one(k, 0),
-        devices: s.devices + one(k, 1),
-        buckets: s.buckets + one(k, 2),
-        links: s.links + one(k, 3),
-        steps: s.steps + one(k, 4),
-        ends: s.ends + one(k, 5),
+        groups: s.groups + usize::from(k == 0),
+        devices: s.devices + usize::from(k == 1),
+        buckets: s.buckets + usize::from(k == 2),
+        links: s.links + usize::from(k == 3),
+        steps: s.steps + usize::from(k == 4),
+        ends: s.ends + usize::from(k == 5),
     }
 }
 
@@ -79,14 +70,11 @@ pub fn outline_of(t: &[u8]) -> Outline
     while at < t.len() {
         let l = line_at(t, at);
         s = count(s, l.kind);
-        sorted = sorted & (last <= l.kind);
+        sorted &= last <= l.kind;
         last = l.kind;
         at = l.next;
     }
-    Outline {
-        shape: s,
-        sorted: sorted,
-    }
+    Outline { shape: s, sorted }
 }
 
 pub fn shape_of(t: &[u8]) -> Shape

@@ -9,18 +9,12 @@ const FOUR: u64 = 0x01010101;
 
 const EIGHT: u64 = 0x0101010101010101;
 
-fn wide(b: u8) -> u64
-    ensures { (result ≡ b) × (result < 256) }
-{
-    b as u64
-}
-
-// Four bytes as a number. Written out, as a loop would not become one read.
+// Four bytes as a number.
 fn four(s: &[u8], at: usize) -> u64
     requires { at + 4 ≤ length s.now }
     ensures { (result ≡ word_of 4 (drop at s.now)) × (result < 2 ^ 32) }
 {
-    wide(s[at]) * 16777216 + wide(s[at + 1]) * 65536 + wide(s[at + 2]) * 256 + wide(s[at + 3])
+    u64::from(u32::from_be_bytes([s[at], s[at + 1], s[at + 2], s[at + 3]]))
 }
 
 fn eight(s: &[u8], at: usize) -> u64

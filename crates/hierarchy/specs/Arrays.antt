@@ -109,6 +109,7 @@ view_in plan values =
     }
 
 -- an item that a map can have: a device below 1,024, or a bucket below 256
+-- A clause where it is asked: `Item::from` takes any number, and a map's words are numbers.
 abbrev pub ItemRange : ℕ → Type 0
 ItemRange i = (i < 1024) ⊎ ((65536 ≤ i) × (i < 65792))
 

@@ -1,11 +1,11 @@
 -- Document 02, change 8: "afterwards want the old map again". A good return to a name gives back, byte for byte, the map and the table of the moment
 -- of the last good store under it. Assumes nothing.
-use Rattle.std.specs.Prelude.{◌≡◌, Bool, true, false, ℕ, zero, suc, eqb}
+use Rattle.std.specs.Prelude.{◌≡◌, Bool, true, false, ℕ, zero, suc, eqb, Option, None, Some}
 use Rattle.std.proofs.Math.Path.{refl, ap}
 use Rattle.std.proofs.Common.{sym, ◌∙◌, eqb-true}
 use mathlib.Core.List.{List, [], ◌∷◌, ◌++◌, map}
 use Rattle.definitions.specs.declared.Change.{Change}
-use Rattle.definitions.specs.declared.Change.TheVariants.{Acceptance, Weight, Malformed}
+use Rattle.definitions.specs.declared.Change.TheVariants.{Acceptance, Weight}
 use Rattle.definitions.specs.declared.Bucket.{Bucket}
 use Rattle.definitions.specs.declared.Device.{Device}
 use Rattle.definitions.specs.Lists.{every, some_of, over}
@@ -40,11 +40,11 @@ bare-sums n (b ∷ bs) = rw (bare-sums n bs)
 bare-with : (m n : Map) → record { groups = m.groups; devices = []; buckets = map bare (map (with_sum n) m.buckets); links = m.links; steps = m.steps } ≡ bare_of m
 bare-with m n = rw (bare-sums n m.buckets) refl
 
-bare-put : (m : Map) (c : Change) → bare_of (put m c) ≡ bare_of m
+bare-put : (m : Map) (c : Option Change) → bare_of (put m c) ≡ bare_of m
 unfolding put with_sums
-bare-put m (Acceptance d a) = refl
-bare-put m (Weight d w) = bare-with m _
-bare-put m Malformed = refl
+bare-put m (Some (Acceptance d a)) = refl
+bare-put m (Some (Weight d w)) = bare-with m _
+bare-put m None = refl
 
 bare-state : (m : Map) (ds : List Device) → bare_of (put_state m ds) ≡ bare_of m
 unfolding put_state with_sums

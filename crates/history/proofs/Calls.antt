@@ -1,5 +1,5 @@
 -- Every list of calls of edit, store and return keeps what `Kept` of specs/Calls.antt says: demand 3. Assumes nothing.
-use Rattle.std.specs.Prelude.{◌≡◌, Bool, ◌&&◌, ◌||◌, length, get_or, take, drop}
+use Rattle.std.specs.Prelude.{◌≡◌, Bool, ◌&&◌, ◌||◌, length, get_or, take, drop, Option}
 use Rattle.std.proofs.Math.Path.{refl, ap₂}
 use Rattle.std.proofs.Common.{sym, ap, ◌∙◌, arith, mul-le-mul_right}
 use Rattle.std.proofs.Math.Bool.{true, false}
@@ -213,7 +213,7 @@ module _ (rest : List ℕ) (s : Site) (S : Stands rest s) where
 
   -- an edit
   module _ (edit space : List ℕ) (o : EditAnswer) (e : o ≡ edit_of s.frames s.table edit space) where
-    abbrev c : Change
+    abbrev c : Option Change
     c = change_of edit
 
     edit-told : Told rest s.frames s.table edit space o

@@ -1,6 +1,6 @@
 -- Document 02, change 7, of a call of edit and a call for the ceiling, by the definition of each: the moves that the edit wrote, and their
 -- number, beside the rows of the table and the ceiling. Assumes nothing.
-use Rattle.std.specs.Prelude.{◌≡◌, refl, true, ℕ, ◌*◌, ◌<◌, ◌≤◌, leb, length, drop}
+use Rattle.std.specs.Prelude.{◌≡◌, refl, true, ℕ, ◌*◌, ◌<◌, ◌≤◌, leb, length, drop, Option, Some}
 use Rattle.std.proofs.Common.{sym, ◌∙◌, subst, arith}
 use Rattle.std.proofs.Math.Path.{ap}
 use mathlib.Core.List.{List, Memᴰ}
@@ -77,7 +77,7 @@ module _ (rest frames table : List ℕ) (S : Standing rest frames table) where
 -- ---- beside a good call of edit
 
 module _ (rest frames table edit space : List ℕ) (o : EditAnswer) (S : Standing rest frames table) (e : o ≡ edit_of frames table edit space)
-    (z : o.number ≡ 0) (d a : ℕ) (q : change_of edit ≡ Acceptance d a) where
+    (z : o.number ≡ 0) (d a : ℕ) (q : change_of edit ≡ Some (Acceptance d a)) where
   t : Told rest frames table edit space o
   t = rw e (step-told rest frames table edit space S)
 
@@ -85,23 +85,23 @@ module _ (rest frames table edit space : List ℕ) (o : EditAnswer) (S : Standin
   before = map_of frames
 
   abbrev after : Map
-  after = put before (Acceptance d a)
+  after = put before (Some (Acceptance d a))
 
   abbrev moves : List Move
   moves = moves_of before after
 
-  fit : fits before (Acceptance d a) ≡ true
-  fit = subst (λ (c : Change). fits before c ≡ true) q (told-done rest frames table edit space o t z).0
+  fit : fits before (Some (Acceptance d a)) ≡ true
+  fit = subst (λ (c : Option Change). fits before c ≡ true) q (told-done rest frames table edit space o t z).0
 
   made : Done rest after moves space o
-  made = subst (λ (c : Change). Done rest (put before c) (moves_of before (put before c)) space o) q (told-done rest frames table edit space o t z).1
+  made = subst (λ (c : Option Change). Done rest (put before c) (moves_of before (put before c)) space o) q (told-done rest frames table edit space o t z).1
 
   present : has_device before d ≡ true
   unfolding fits
   present = (both (has_device before d) (leb a 65536) fit).0
 
   group-below : (v : Move) → Memᴰ v moves → v.group < before.groups
-  group-below v i = ((moves-traced before (Acceptance d a) (loaded-map frames S.loads) S.only fit).each v i).group
+  group-below v i = ((moves-traced before (Some (Acceptance d a)) (loaded-map frames S.loads) S.only fit).each v i).group
 
   -- LOWERING: the rows of the table that edit was lent, and the ceiling told with that map and that table
   pub lowering : a ≤ acceptance_of before d → Within d before table moves space o (ceiling_of frames table d)
@@ -121,9 +121,9 @@ module _ (rest frames table edit space : List ℕ) (o : EditAnswer) (S : Standin
       let L = loaded-map frames S.loads in
       let S' = step-stands rest frames table edit space S o t in
       let y = made.holds in
-      let there : has_device (map_of o.frames) d ≡ true = ap (λ (n : Map). has_device n d) y ∙ put-has-device before (Acceptance d a) d ∙ present in
+      let there : has_device (map_of o.frames) d ≡ true = ap (λ (n : Map). has_device n d) y ∙ put-has-device before (Some (Acceptance d a)) d ∙ present in
       let below : (v : Move) → Memᴰ v moves → v.group < (map_of o.frames).groups =
-      λ v i. omega (arith, group-below v i, ap (λ (n : Map). n.groups) y, put-groups before (Acceptance d a)) in
+      λ v i. omega (arith, group-below v i, ap (λ (n : Map). n.groups) y, put-groups before (Some (Acceptance d a))) in
       record {
         wrote = made.written;
         counted = made.count;

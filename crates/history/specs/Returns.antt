@@ -1,6 +1,6 @@
 -- Document 02, change 8: the moves between any two maps of the same steps are those of the places whose entries differ, in their order, each
 -- with its old and new entry; and so are they where each has another cause. Assumes nothing.
-use Rattle.std.specs.Prelude.{◌≡◌, true, ℕ, suc, ◌+◌, ◌<◌, length}
+use Rattle.std.specs.Prelude.{◌≡◌, true, ℕ, suc, ◌+◌, ◌<◌, length, Option}
 use Rattle.std.proofs.Math.Path.{refl, sym, ap, ap₂, subst}
 use Rattle.std.proofs.Common.{◌∙◌}
 use mathlib.Core.List.Memᴰ
@@ -39,7 +39,7 @@ pub record MovesBetween (m m' : Map) (moves : List Move) : Type 0 where
   pub rising : linked move_below moves ≡ true
 
 -- those of an edit are
-pub traced-between : (m : Map) (c : Change) (moves : List Move) → MovesTraced m c moves → MovesBetween m (put m c) moves
+pub traced-between : (m : Map) (c : Option Change) (moves : List Move) → MovesTraced m c moves → MovesBetween m (put m c) moves
 traced-between m c moves t =
     record {
       each = λ v i.

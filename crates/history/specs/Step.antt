@@ -1,6 +1,6 @@
 -- What one call of edit does, by its definition, to a map that load takes and a table that is its fresh fill: a refusal alters nothing, and
 -- a good edit leaves such a map and such a table again. Assumes nothing.
-use Rattle.std.specs.Prelude.{◌≡◌, Bool, cond, List, [], ◌∷◌, ◌++◌, ℕ, ◌*◌, ◌≤◌, drop}
+use Rattle.std.specs.Prelude.{◌≡◌, Bool, cond, List, [], ◌∷◌, ◌++◌, ℕ, ◌*◌, ◌≤◌, drop, Option}
 use Rattle.std.proofs.Math.Path.{refl, sym, ap}
 use Rattle.std.proofs.Common.{◌∙◌, subst, arith, length-append, length-drop, drop_at}
 use Rattle.std.proofs.Math.Bool.{true, false}
@@ -125,7 +125,7 @@ module _ (rest frames table edit space : List ℕ) (S : Standing rest frames tab
   abbrev m : Map
   m = map_of frames
 
-  abbrev c : Change
+  abbrev c : Option Change
   c = change_of edit
 
   abbrev m' : Map

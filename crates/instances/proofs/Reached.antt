@@ -1,5 +1,6 @@
 -- An instance of change 7 over the calls, on the map where the ceiling is reached: drive 0 dies and comes back, and both edits move as many places as
 -- the ceiling told. All of it is computed from the definitions.
+use Rattle.std.specs.Prelude.{Some}
 use mathlib.Core.Path.{◌≡◌, refl, sym, ap, ◌∙◌, subst}
 use mathlib.Core.Bool.{true}
 use mathlib.Core.List.{List, [], ◌∷◌}
@@ -36,11 +37,11 @@ pub alive-fills : fill_of alive lent_table ≡ record { number = 0; places = 4; 
 unfolding computing
 alive-fills = refl
 
-pub dies-is : change_of dies ≡ Acceptance 0 0
+pub dies-is : change_of dies ≡ Some (Acceptance 0 0)
 unfolding computing
 dies-is = refl
 
-pub returns_is : change_of returns ≡ Acceptance 0 65536
+pub returns_is : change_of returns ≡ Some (Acceptance 0 65536)
 unfolding computing
 returns_is = refl
 
@@ -63,7 +64,7 @@ module _ (k : Lending) where
   returning = edit_call k dead dead-table returns space
 
   -- the moves of the first edit are within what was told, 2, and are as many
-  pub dying-within : Within 0 (map_of alive) alive-table (moves_of (map_of alive) (put (map_of alive) (Acceptance 0 0))) space (edit_answered dying) (ceiling_answered asked)
+  pub dying-within : Within 0 (map_of alive) alive-table (moves_of (map_of alive) (put (map_of alive) (Some (Acceptance 0 0)))) space (edit_answered dying) (ceiling_answered asked)
   dying-within =
       lowering-moves (load_call k alive) (fill_call k alive lent_table) [] dying (site alive alive-table) lent_table (site alive alive-table) 0 0 start alive-independent empty refl refl dies-is
       (ap (λ (o : EditAnswer). o.number) died) asked refl refl refl (omega arith)
@@ -72,9 +73,9 @@ module _ (k : Lending) where
   dying-reaches = ap (λ (o : EditAnswer). o.moves) died ∙ sym (ap (λ (o : CeilingAnswer). o.moves) ceiling-alive)
 
   -- and those of the second, behind the first, within what is told with the map and the table that it leaves
-  pub returning-within : Within 0 (map_of alive) alive-table (moves_of (map_of dead) (put (map_of dead) (Acceptance 0 65536))) space (edit_answered returning) (ceiling_answered asked)
+  pub returning-within : Within 0 (map_of alive) alive-table (moves_of (map_of dead) (put (map_of dead) (Some (Acceptance 0 65536)))) space (edit_answered returning) (ceiling_answered asked)
   returning-within =
-      subst (λ (o : EditAnswer). Within 0 (map_of o.frames) o.table (moves_of (map_of dead) (put (map_of dead) (Acceptance 0 65536))) space (edit_answered returning) (ceiling_answered asked)) returned
+      subst (λ (o : EditAnswer). Within 0 (map_of o.frames) o.table (moves_of (map_of dead) (put (map_of dead) (Some (Acceptance 0 65536)))) space (edit_answered returning) (ceiling_answered asked)) returned
       (raising-moves (load_call k alive) (fill_call k alive lent_table) (edits dying ∷ []) returning (site alive alive-table) lent_table (site dead dead-table) 0 65536 start alive-independent
       (answers k died empty) refl refl returns_is (ap (λ (o : EditAnswer). o.number) returned) asked (sym (ap (λ (o : EditAnswer). o.frames) returned))
       (sym (ap (λ (o : EditAnswer). o.table) returned)) refl (omega (arith, dead-acceptance)))

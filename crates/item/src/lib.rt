@@ -9,6 +9,15 @@ pub struct Item {
     pub number: u32,
 }
 
+// The item of a number that a frame or a draw gives.
+impl From<u32> for Item {
+    ghost from_gives = { λ i item. item.number ≡ i };
+
+    fn from(number: u32) -> Item {
+        Item { number }
+    }
+}
+
 impl Item {
     // The item number of bucket 0.
     pub const BUCKET_BASE: u32 = 65536;
@@ -35,13 +44,6 @@ impl Item {
         Item {
             number: Item::BUCKET_BASE + n,
         }
-    }
-
-    // The item of a number that a frame or a draw gives.
-    pub fn numbered(i: u32) -> Item
-        ensures { result.number ≡ i }
-    {
-        Item { number: i }
     }
 
     pub fn is_bucket(self) -> bool

@@ -1,14 +1,11 @@
 -- Document 01, "The straw draw": laws of the draw. Assumes nothing.
 use Rattle.std.proofs.Math.Path.{◌≡◌, subst}
-use Rattle.std.specs.Prelude.{refl, Bool, cond, ◌&&◌, ◌||◌, List, ◌⊎◌, ltb, eqb}
+use Rattle.std.specs.Prelude.{refl, Bool, cond, ◌&&◌, ◌||◌, List, ◌⊎◌, ltb, eqb, None, Some, Option}
 use Rattle.std.proofs.Common.{sym, ◌∙◌, inl, inr, ⊎_elim, le-div_iff_mul-le, le_trans, mul-le-mul_left, div-mul-le_self, eq-or-lt_of_le, arith, ltb-true, ltb-false, eqb-true, lt-ltb, le-ltb, eq-eqb, ne_eqb}
 use Rattle.std.proofs.Math.Bool.{true, false}
 use Prim.Native.Nat.{ℕ, zero, suc, ◌+◌, ◌*◌, ◌/◌, ◌^◌, ◌<◌, ◌≤◌}
 use Rattle.std.proofs.lemmas.Bool.{eqb-false}
 use Rattle.std.proofs.Math.ListN.{length, get_or}
-use Rattle.definitions.specs.declared.Best.{Best}
-use Rattle.definitions.specs.declared.Best.TheVariants.{Nobody, Leads}
-use Rattle.definitions.specs.declared.Drawn.TheVariants.{Winner, Nothing}
 use Rattle.definitions.specs.Hash.{hash3}
 use Rattle.definitions.specs.Straw.{cost, key, key_of, wins, better, consider, best_to, drawn_of, draw_of}
 
@@ -18,12 +15,12 @@ unfolding key
 key-falls c v w p h = (le-div_iff_mul-le p).1 (le_trans (mul-le-mul_left (c * 2 ^ 30 / w) h) (div-mul-le_self (c * 2 ^ 30) w))
 
 -- what holds of both arms of a test holds of its outcome
-pub by-test : (P : Best → Type 0) (t : Bool) {u v : Best} → (t ≡ true → P u) → (t ≡ false → P v) → P (cond t u v)
+pub by-test : (P : Option (ℕ × ℕ) → Type 0) (t : Bool) {u v : Option (ℕ × ℕ)} → (t ≡ true → P u) → (t ≡ false → P v) → P (cond t u v)
 by-test P true f g = f refl
 by-test P false f g = g refl
 
 -- and for the test of a weight against 0
-pub by_zero : (P : Best → Type 0) (w : ℕ) {u v : Best} → (w ≡ 0 → P u) → (0 < w → P v) → P (cond (eqb w 0) u v)
+pub by_zero : (P : Option (ℕ × ℕ) → Type 0) (w : ℕ) {u v : Option (ℕ × ℕ)} → (w ≡ 0 → P u) → (0 < w → P v) → P (cond (eqb w 0) u v)
 by_zero P w f g = by-test P (eqb w 0) (λ e. f (eqb-true w 0 e)) (λ e. g (let h : w ≡ 0 → ⊥ = eqb-false w 0 e in omega arith))
 
 never : {t : Bool} → t ≡ true → t ≡ false → ⊥
@@ -82,51 +79,51 @@ loses-on i k j l h n p q =
     loses i k h n (omega arith) (λ e. le_trans (g (omega arith)) (f (omega arith)))
 
 -- the bests of two runs that differ at item c only, which weighs more in the second
-pub data Raised (c : ℕ) : Best → Best → Type 0 where
-  same : {b : Best} → Raised c b b
-  from-nobody : {k : ℕ} → Raised c Nobody (Leads c k)
-  from-leads : {i k l : ℕ} → wins i k c l ≡ false → Raised c (Leads i k) (Leads c l)
+pub data Raised (c : ℕ) : Option (ℕ × ℕ) → Option (ℕ × ℕ) → Type 0 where
+  same : {b : Option (ℕ × ℕ)} → Raised c b b
+  from-nobody : {k : ℕ} → Raised c None (Some (c, k))
+  from-leads : {i k l : ℕ} → wins i k c l ≡ false → Raised c (Some (i, k)) (Some (c, l))
 
 module _ (c : ℕ) where
   -- the same child
-  same-child : (a b : Best) (i k : ℕ) → Raised c a b → Raised c (better a i k) (better b i k)
+  same-child : (a b : Option (ℕ × ℕ)) (i k : ℕ) → Raised c a b → Raised c (better a i k) (better b i k)
   unfolding better
   same-child a b i k same = same
-  same-child a b i k (from-nobody {k = l}) = by-test (Raised c (Leads i k)) (wins i k c l) (λ h. same) (λ h. from-leads h)
+  same-child a b i k (from-nobody {k = l}) = by-test (Raised c (Some (i, k))) (wins i k c l) (λ h. same) (λ h. from-leads h)
   same-child a b i k (from-leads {i = j} {k = o} {l} g) =
-      by-test (λ z. Raised c z (better (Leads c l) i k)) (wins i k j o)
-      (λ h. by-test (Raised c (Leads i k)) (wins i k c l) (λ t. same) (λ t. from-leads t))
-      (λ h. by-test (Raised c (Leads j o)) (wins i k c l) (λ t. absurd (never t (loses-on i k j o c l h g))) (λ t. from-leads g))
+      by-test (λ z. Raised c z (better (Some (c, l)) i k)) (wins i k j o)
+      (λ h. by-test (Raised c (Some (i, k))) (wins i k c l) (λ t. same) (λ t. from-leads t))
+      (λ h. by-test (Raised c (Some (j, o))) (wins i k c l) (λ t. absurd (never t (loses-on i k j o c l h g))) (λ t. from-leads g))
 
   -- c itself, of weight 0 in the first
-  new-child : (a b : Best) (l : ℕ) → Raised c a b → Raised c a (better b c l)
+  new-child : (a b : Option (ℕ × ℕ)) (l : ℕ) → Raised c a b → Raised c a (better b c l)
   unfolding better
-  new-child a Nobody l same = from-nobody
-  new-child a (Leads j o) l same = by-test (Raised c (Leads j o)) (wins c l j o) (λ t. from-leads (wins-one c l j o t)) (λ t. same)
-  new-child a b l (from-nobody {k = o}) = by-test (Raised c Nobody) (wins c l c o) (λ t. from-nobody) (λ t. from-nobody)
+  new-child a None l same = from-nobody
+  new-child a (Some (j, o)) l same = by-test (Raised c (Some (j, o))) (wins c l j o) (λ t. from-leads (wins-one c l j o t)) (λ t. same)
+  new-child a b l (from-nobody {k = o}) = by-test (Raised c None) (wins c l c o) (λ t. from-nobody) (λ t. from-nobody)
   new-child a b l (from-leads {i = j} {k = n} {l = o} g) =
-      by-test (Raised c (Leads j n)) (wins c l c o) (λ t. from-leads (loses-on j n c o c l g (wins-one c l c o t))) (λ t. from-leads g)
+      by-test (Raised c (Some (j, n))) (wins c l c o) (λ t. from-leads (loses-on j n c o c l g (wins-one c l c o t))) (λ t. from-leads g)
 
   -- c itself, with a key no greater in the second
-  lighter-child : (a b : Best) (k l : ℕ) → wins c k c l ≡ false → Raised c a b → Raised c (better a c k) (better b c l)
+  lighter-child : (a b : Option (ℕ × ℕ)) (k l : ℕ) → wins c k c l ≡ false → Raised c a b → Raised c (better a c k) (better b c l)
   unfolding better
-  lighter-child a Nobody k l h same = from-leads h
-  lighter-child a (Leads j o) k l h same =
-      by-test (λ z. Raised c z (better (Leads j o) c l)) (wins c k j o)
-      (λ s. by-test (Raised c (Leads c k)) (wins c l j o) (λ t. from-leads h) (λ t. absurd (never s (loses-on c k c l j o h t))))
-      (λ s. new-child (Leads j o) (Leads j o) l same)
+  lighter-child a None k l h same = from-leads h
+  lighter-child a (Some (j, o)) k l h same =
+      by-test (λ z. Raised c z (better (Some (j, o)) c l)) (wins c k j o)
+      (λ s. by-test (Raised c (Some (c, k))) (wins c l j o) (λ t. from-leads h) (λ t. absurd (never s (loses-on c k c l j o h t))))
+      (λ s. new-child (Some (j, o)) (Some (j, o)) l same)
   lighter-child a b k l h (from-nobody {k = o}) =
-      by-test (Raised c (Leads c k)) (wins c l c o) (λ t. from-leads h) (λ t. from-leads (loses-on c k c l c o h t))
+      by-test (Raised c (Some (c, k))) (wins c l c o) (λ t. from-leads h) (λ t. from-leads (loses-on c k c l c o h t))
   lighter-child a b k l h (from-leads {i = j} {k = n} {l = o} g) =
-      by-test (λ z. Raised c z (better (Leads c o) c l)) (wins c k j n)
-      (λ s. by-test (Raised c (Leads c k)) (wins c l c o) (λ t. from-leads h) (λ t. from-leads (loses-on c k c l c o h t)))
-      (λ s. new-child (Leads j n) (Leads c o) l (from-leads g))
+      by-test (λ z. Raised c z (better (Some (c, o)) c l)) (wins c k j n)
+      (λ s. by-test (Raised c (Some (c, k))) (wins c l c o) (λ t. from-leads h) (λ t. from-leads (loses-on c k c l c o h t)))
+      (λ s. new-child (Some (j, n)) (Some (c, o)) l (from-leads g))
 
 -- two weights of item i: equal, or i is c and weighs no less in the second
 abbrev pub Heavier : ℕ → ℕ → ℕ → ℕ → Type 0
 Heavier c i v w = (v ≡ w) ⊎ ((i ≡ c) × (v ≤ w))
 
-raised-drawn : (c : ℕ) (a b : Best) → Raised c a b → (drawn_of a ≡ drawn_of b) ⊎ (drawn_of b ≡ Winner c)
+raised-drawn : (c : ℕ) (a b : Option (ℕ × ℕ)) → Raised c a b → (drawn_of a ≡ drawn_of b) ⊎ (drawn_of b ≡ Some c)
 unfolding drawn_of
 raised-drawn c a b same = inl refl
 raised-drawn c a b from-nobody = inr refl
@@ -146,13 +143,13 @@ pub record Least (seed x r : ℕ) (items weights : List ℕ) (n i : ℕ) : Type 
       → wins (get_or items m 0) (key_of seed x r (get_or items m 0) (get_or weights m 0)) i (key_of seed x r i (get_or weights place 0)) ≡ false
 
 -- what the best of the first n children is
-pub data Won (seed x r : ℕ) (items weights : List ℕ) (n : ℕ) : Best → Type 0 where
-  nobody : ((m : ℕ) → m < n → get_or weights m 0 ≡ 0) → Won seed x r items weights n Nobody
-  leads : {i : ℕ} (l : Least seed x r items weights n i) → Won seed x r items weights n (Leads i (key_of seed x r i (get_or weights l.place 0)))
+pub data Won (seed x r : ℕ) (items weights : List ℕ) (n : ℕ) : Option (ℕ × ℕ) → Type 0 where
+  nobody : ((m : ℕ) → m < n → get_or weights m 0 ≡ 0) → Won seed x r items weights n None
+  leads : {i : ℕ} (l : Least seed x r items weights n i) → Won seed x r items weights n (Some (i, key_of seed x r i (get_or weights l.place 0)))
 
 module _ (seed x r : ℕ) where
   -- one child
-  consider-raised : (c : ℕ) (a b : Best) (i v w : ℕ) → Heavier c i v w → Raised c a b → Raised c (consider seed x r a i v) (consider seed x r b i w)
+  consider-raised : (c : ℕ) (a b : Option (ℕ × ℕ)) (i v w : ℕ) → Heavier c i v w → Raised c a b → Raised c (consider seed x r a i v) (consider seed x r b i w)
   unfolding consider key_of
   consider-raised c a b i v w (inl e) s =
       subst (λ n. Raised c (consider seed x r a i v) (consider seed x r b i n)) e
@@ -181,13 +178,13 @@ module _ (seed x r : ℕ) where
 
     -- where only the weight of c differs, and is greater in the second, the draws are equal or the second is won by c
     pub draw-law : ((n : ℕ) → n < length items → Heavier c (get_or items n 0) (get_or vs n 0) (get_or ws n 0))
-        → (draw_of seed x r items vs ≡ draw_of seed x r items ws) ⊎ (draw_of seed x r items ws ≡ Winner c)
+        → (draw_of seed x r items vs ≡ draw_of seed x r items ws) ⊎ (draw_of seed x r items ws ≡ Some c)
     unfolding draw_of
     draw-law h = raised-drawn c (best_to seed x r items vs (length items)) (best_to seed x r items ws (length items)) (best-raised (length items) h)
 
     -- where the draws then differ, the winner where c weighs more is c
     pub draws-differ : ((n : ℕ) → n < length items → Heavier c (get_or items n 0) (get_or vs n 0) (get_or ws n 0))
-        → (draw_of seed x r items vs ≡ draw_of seed x r items ws → ⊥) → draw_of seed x r items ws ≡ Winner c
+        → (draw_of seed x r items vs ≡ draw_of seed x r items ws → ⊥) → draw_of seed x r items ws ≡ Some c
     draws-differ h d = ⊎_elim (λ e. absurd (d e)) (λ w. w) (draw-law h)
 
   module _ (items weights : List ℕ) where
@@ -200,12 +197,12 @@ module _ (seed x r : ℕ) where
 
     -- the child at place n leads
     taken : (n : ℕ) → 0 < get_or weights n 0 → ((m : ℕ) → m < n → After (get_or items n 0) (key_at n) m)
-        → Won seed x r items weights (suc n) (Leads (get_or items n 0) (key_at n))
+        → Won seed x r items weights (suc n) (Some (get_or items n 0, key_at n))
     taken n p f =
         let all = one_more (After (get_or items n 0) (key_at n)) n f (λ q. wins-self (get_or items n 0) (key_at n)) in
         leads (record { place = n; inside = omega arith; item = refl; above = p; least = all })
 
-    won-more : (n : ℕ) (b : Best) → Won seed x r items weights n b
+    won-more : (n : ℕ) (b : Option (ℕ × ℕ)) → Won seed x r items weights n b
         → Won seed x r items weights (suc n) (consider seed x r b (get_or items n 0) (get_or weights n 0))
     unfolding consider better
     won-more n b (nobody f) =
@@ -222,7 +219,7 @@ module _ (seed x r : ℕ) where
         k : ℕ
         k = key_of seed x r i (get_or weights l.place 0)
 
-        kept : After i k n → Won seed x r items weights (suc n) (Leads i k)
+        kept : After i k n → Won seed x r items weights (suc n) (Some (i, k))
         kept f = leads (record { place = l.place; inside = omega arith; item = l.item; above = l.above; least = one_more (After i k) n l.least f })
 
     -- the best of the first n children is nobody where all weigh 0, and else the least of them
@@ -232,26 +229,26 @@ module _ (seed x r : ℕ) where
     best-won (suc n) = won-more n (best_to seed x r items weights n) (best-won n)
 
     -- no child of weight above 0 comes before the winner: the least key wins, and of equal keys the smaller item number
-    pub draw-least : (i : ℕ) → draw_of seed x r items weights ≡ Winner i → Least seed x r items weights (length items) i
+    pub draw-least : (i : ℕ) → draw_of seed x r items weights ≡ Some i → Least seed x r items weights (length items) i
     unfolding draw_of drawn_of
     draw-least i = go (best_to seed x r items weights (length items)) (best-won (length items))
       where
-        go : (b : Best) → Won seed x r items weights (length items) b → drawn_of b ≡ Winner i → Least seed x r items weights (length items) i
+        go : (b : Option (ℕ × ℕ)) → Won seed x r items weights (length items) b → drawn_of b ≡ Some i → Least seed x r items weights (length items) i
         go b (nobody f) e = absurd (let z : ◌≡◌ {A = ℕ} 0 1 = cc in omega arith)
         go b (leads {i = j} l) e = subst (Least seed x r items weights (length items)) (let q : j ≡ i = cc in q) l
 
     -- the winner is a child of weight above 0
-    pub winner-child : (i : ℕ) → draw_of seed x r items weights ≡ Winner i
+    pub winner-child : (i : ℕ) → draw_of seed x r items weights ≡ Some i
         → (n : ℕ) × (n < length items) × (get_or items n 0 ≡ i) × (0 < get_or weights n 0)
     winner-child i e = let l = draw-least i e in (l.place, l.inside, l.item, l.above)
 
     -- none exactly where there is no child of weight above 0
-    pub none-exactly : (draw_of seed x r items weights ≡ Nothing → (n : ℕ) → n < length items → get_or weights n 0 ≡ 0)
-        × (((n : ℕ) → n < length items → get_or weights n 0 ≡ 0) → draw_of seed x r items weights ≡ Nothing)
+    pub none-exactly : (draw_of seed x r items weights ≡ None → (n : ℕ) → n < length items → get_or weights n 0 ≡ 0)
+        × (((n : ℕ) → n < length items → get_or weights n 0 ≡ 0) → draw_of seed x r items weights ≡ None)
     unfolding draw_of drawn_of
     none-exactly = go (best_to seed x r items weights (length items)) (best-won (length items))
       where
-        go : (b : Best) → Won seed x r items weights (length items) b → (drawn_of b ≡ Nothing → (n : ℕ) → n < length items → get_or weights n 0 ≡ 0)
-            × (((n : ℕ) → n < length items → get_or weights n 0 ≡ 0) → drawn_of b ≡ Nothing)
+        go : (b : Option (ℕ × ℕ)) → Won seed x r items weights (length items) b → (drawn_of b ≡ None → (n : ℕ) → n < length items → get_or weights n 0 ≡ 0)
+            × (((n : ℕ) → n < length items → get_or weights n 0 ≡ 0) → drawn_of b ≡ None)
         go b (nobody f) = (λ e. f, λ h. refl)
         go b (leads l) = (λ e. absurd (let z : ◌≡◌ {A = ℕ} 0 1 = cc in omega arith), λ h. absurd (omega (arith, h l.place l.inside)))

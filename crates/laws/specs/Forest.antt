@@ -1,6 +1,6 @@
 -- The items of a loadable map are a forest, and what follows of their weights: a bucket's is its children's, none is above the devices'
 -- total, and an edit of one device's weight changes only what is or holds it, all in one direction. Assumes nothing.
-use Rattle.std.specs.Prelude.{◌≡◌, Bool, ◌⊎◌, ltb, length, get_or}
+use Rattle.std.specs.Prelude.{◌≡◌, Bool, ◌⊎◌, ltb, length, get_or, Some, Option, None}
 use Rattle.std.proofs.Math.Path.{refl, ap}
 use Rattle.std.proofs.Common.{sym, ◌∙◌, subst, arith}
 use Rattle.std.proofs.Math.Bool.{true, false, cond}
@@ -18,8 +18,7 @@ use Rattle.definitions.specs.declared.Device.{Device}
 use Rattle.definitions.specs.declared.Bucket.{Bucket}
 use Rattle.definitions.specs.declared.Link.{Link}
 use Rattle.definitions.specs.declared.Change.{Change}
-use Rattle.definitions.specs.declared.Change.TheVariants.{Acceptance, Weight, Malformed}
-use Rattle.definitions.specs.declared.Drawn.TheVariants.{Winner}
+use Rattle.definitions.specs.declared.Change.TheVariants.{Acceptance, Weight}
 use Rattle.definitions.specs.Lists.{kept, lookup, sum, distinct}
 use Rattle.definitions.specs.Straw.{draw_of}
 use Rattle.definitions.specs.Map.{Map, bucket_item, is_bucket, bucket_number}
@@ -343,14 +342,14 @@ abbrev with_written : Bucket → ℕ → Bucket
 with_written b w = record { number = b.number; ty = b.ty; kind = b.kind; weight = w }
 
 -- an edit leaves each item's children
-pub put-kids : (m : Map) (c : Change) → kids_of (put m c) ≡ kids_of m
+pub put-kids : (m : Map) (c : Option Change) → kids_of (put m c) ≡ kids_of m
 unfolding put with_sums kids_of children_of
-put-kids m (Acceptance d a) = refl
-put-kids m (Weight d w) = refl
-put-kids m Malformed = refl
+put-kids m (Some (Acceptance d a)) = refl
+put-kids m (Some (Weight d w)) = refl
+put-kids m None = refl
 
 -- the weights after an edit are those of the same forest
-put-weight-at : (m : Map) (c : Change) (i : ℕ) → weight_of (put m c) i ≡ weight_at (kids_of m) (own_in (put m c).devices) (type_of m i) i
+put-weight-at : (m : Map) (c : Option Change) (i : ℕ) → weight_of (put m c) i ≡ weight_at (kids_of m) (own_in (put m c).devices) (type_of m i) i
 unfolding weight_of
 put-weight-at m c i =
     weight-at (put m c) (type_of (put m c) i) i
@@ -358,19 +357,19 @@ put-weight-at m c i =
     ∙ ap (λ (f : ℕ). weight_at (kids_of m) (own_in (put m c).devices) f i) (put-type m c i)
 
 module _ (m : Map) (d x : ℕ) (h : has_device m d ≡ true) where
-  own_put : (i : ℕ) → own_in (put m (Weight d x)).devices i ≡ cond (is_bucket i) 0 (cond (eqb i d) x (device_weight m i))
+  own_put : (i : ℕ) → own_in (put m (Some (Weight d x))).devices i ≡ cond (is_bucket i) 0 (cond (eqb i d) x (device_weight m i))
   unfolding own_in device_weight
   own_put i = ap (λ (n : ℕ). cond (is_bucket i) 0 n) (put-weight m d x h i)
 
-  own-only : (i : ℕ) → (own_in m.devices i ≡ own_in (put m (Weight d x)).devices i) ⊎ (i ≡ d)
+  own-only : (i : ℕ) → (own_in m.devices i ≡ own_in (put m (Some (Weight d x))).devices i) ⊎ (i ≡ d)
   unfolding own_in device_weight
   own-only i = go (eqb i d) refl
     where
-      go : (t : Bool) → eqb i d ≡ t → (own_in m.devices i ≡ own_in (put m (Weight d x)).devices i) ⊎ (i ≡ d)
+      go : (t : Bool) → eqb i d ≡ t → (own_in m.devices i ≡ own_in (put m (Some (Weight d x))).devices i) ⊎ (i ≡ d)
       go true e = inr (eqb-true i d e)
       go false e = inl (rw (own_put i, e))
 
-  own-more : device_weight m d ≤ x → (i : ℕ) → own_in m.devices i ≤ own_in (put m (Weight d x)).devices i
+  own-more : device_weight m d ≤ x → (i : ℕ) → own_in m.devices i ≤ own_in (put m (Some (Weight d x))).devices i
   unfolding own_in device_weight
   own-more l i = rw (own_put i) (go (is_bucket i) (eqb i d) refl)
     where
@@ -379,7 +378,7 @@ module _ (m : Map) (d x : ℕ) (h : has_device m d ≡ true) where
       go false true e = omega (arith, ap (device_weight m) (eqb-true i d e))
       go false false e = le_refl _
 
-  own-less : x ≤ device_weight m d → (i : ℕ) → own_in (put m (Weight d x)).devices i ≤ own_in m.devices i
+  own-less : x ≤ device_weight m d → (i : ℕ) → own_in (put m (Some (Weight d x))).devices i ≤ own_in m.devices i
   unfolding own_in device_weight
   own-less l i = rw (own_put i) (go (is_bucket i) (eqb i d) refl)
     where
@@ -390,24 +389,24 @@ module _ (m : Map) (d x : ℕ) (h : has_device m d ≡ true) where
 
   module _ (L : Loadable m) where
     -- an edit that raises a device's weight raises those of what is or holds the device
-    pub put-raises : device_weight m d ≤ x → Raises (kids_of m) d (weight_of m) (weight_of (put m (Weight d x)))
+    pub put-raises : device_weight m d ≤ x → Raises (kids_of m) d (weight_of m) (weight_of (put m (Some (Weight d x))))
     unfolding weight_of
     put-raises l =
-        raises-by (λ i. weight-at m (type_of m i) i) (put-weight-at m (Weight d x))
-        (raised (kids_of m) (type_of m) (forest m L) (own_in m.devices) (own_in (put m (Weight d x)).devices) d own-only (own-more l))
+        raises-by (λ i. weight-at m (type_of m i) i) (put-weight-at m (Some (Weight d x)))
+        (raised (kids_of m) (type_of m) (forest m L) (own_in m.devices) (own_in (put m (Some (Weight d x))).devices) d own-only (own-more l))
 
     -- and one that lowers it lowers them
-    pub put-lowers : x ≤ device_weight m d → Raises (kids_of m) d (weight_of (put m (Weight d x))) (weight_of m)
+    pub put-lowers : x ≤ device_weight m d → Raises (kids_of m) d (weight_of (put m (Some (Weight d x)))) (weight_of m)
     unfolding weight_of
     put-lowers l =
-        raises-by (put-weight-at m (Weight d x)) (λ i. weight-at m (type_of m i) i)
-        (raised (kids_of m) (type_of m) (forest m L) (own_in (put m (Weight d x)).devices) (own_in m.devices) d
+        raises-by (put-weight-at m (Some (Weight d x))) (λ i. weight-at m (type_of m i) i)
+        (raised (kids_of m) (type_of m) (forest m L) (own_in (put m (Some (Weight d x))).devices) (own_in m.devices) d
         (λ i. ⊎_elim (λ e. inl (sym e)) (λ e. inr e) (own-only i)) (own-less l))
 
     -- so an edit of a weight changes no bucket but those that hold the device, and of these the weight alone
     pub only_above : (b₀ : Bucket) (k : ℕ) → k < length m.buckets
-        → (get_or (put m (Weight d x)).buckets k b₀ ≡ get_or m.buckets k b₀)
-        ⊎ (Holds (kids_of m) (bucket_item (get_or m.buckets k b₀).number) d × (get_or (put m (Weight d x)).buckets k b₀ ≡ with_sum (put m (Weight d x)) (get_or m.buckets k b₀)))
+        → (get_or (put m (Some (Weight d x))).buckets k b₀ ≡ get_or m.buckets k b₀)
+        ⊎ (Holds (kids_of m) (bucket_item (get_or m.buckets k b₀).number) d × (get_or (put m (Some (Weight d x))).buckets k b₀ ≡ with_sum (put m (Some (Weight d x))) (get_or m.buckets k b₀)))
     unfolding put with_sums summed
     only_above b₀ k l = go (dec_lt x (device_weight m d))
       where
@@ -423,26 +422,26 @@ module _ (m : Map) (d x : ℕ) (h : has_device m d ≡ true) where
         written : b.weight ≡ weight_of m i
         written = eqb-true _ _ (every-at (λ (a : Bucket). eqb a.weight (weight_of m (bucket_item a.number))) m.buckets k b₀ L.summed l)
 
-        now : get_or (map (with_sum n) m.buckets) k b₀ ≡ with_sum (put m (Weight d x)) b
+        now : get_or (map (with_sum n) m.buckets) k b₀ ≡ with_sum (put m (Some (Weight d x))) b
         now = get_d-mapped (with_sum n) m.buckets k b₀ b₀ l ∙ ap (with_written b) (sym (sums-leave-weights n i))
 
-        told : (weight_of m i ≡ weight_of (put m (Weight d x)) i) ⊎ Holds (kids_of m) i d
-            → (get_or (map (with_sum n) m.buckets) k b₀ ≡ b) ⊎ (Holds (kids_of m) i d × (get_or (map (with_sum n) m.buckets) k b₀ ≡ with_sum (put m (Weight d x)) b))
+        told : (weight_of m i ≡ weight_of (put m (Some (Weight d x))) i) ⊎ Holds (kids_of m) i d
+            → (get_or (map (with_sum n) m.buckets) k b₀ ≡ b) ⊎ (Holds (kids_of m) i d × (get_or (map (with_sum n) m.buckets) k b₀ ≡ with_sum (put m (Some (Weight d x))) b))
         told (inl e) = inl (now ∙ ap (with_written b) (sym (written ∙ e)))
         told (inr h) = inr (h, now)
 
         go : Dec (x < device_weight m d)
-            → (get_or (map (with_sum n) m.buckets) k b₀ ≡ b) ⊎ (Holds (kids_of m) i d × (get_or (map (with_sum n) m.buckets) k b₀ ≡ with_sum (put m (Weight d x)) b))
+            → (get_or (map (with_sum n) m.buckets) k b₀ ≡ b) ⊎ (Holds (kids_of m) i d × (get_or (map (with_sum n) m.buckets) k b₀ ≡ with_sum (put m (Some (Weight d x))) b))
         go (yes h) = told (⊎_elim (λ e. inl (sym e)) (λ g. inr g) ((put-lowers (omega arith)).only i))
         go (no h) = told ((put-raises (omega arith)).only i)
 
 -- and one of an acceptance changes none
-pub acceptance-leaves-buckets : (m : Map) (d a : ℕ) → (put m (Acceptance d a)).buckets ≡ m.buckets
+pub acceptance-leaves-buckets : (m : Map) (d a : ℕ) → (put m (Some (Acceptance d a))).buckets ≡ m.buckets
 unfolding put
 acceptance-leaves-buckets m d a = refl
 
 -- the children's weights after an edit
-pub put-weights : (m : Map) (c : Change) (b : ℕ) → weights_of (put m c) b ≡ map (weight_of (put m c)) (children_of m b)
+pub put-weights : (m : Map) (c : Option Change) (b : ℕ) → weights_of (put m c) b ≡ map (weight_of (put m c)) (children_of m b)
 unfolding weights_of
 put-weights m c b = rw (put-children m c b)
 
@@ -507,7 +506,7 @@ child-heavier m L d v w R b = ⊎_elim (λ e. inl e) (λ t. let (c, k, h, q) = t
 -- what an edit does to a draw: the winner is the same, or where d weighs more it is the child that is or holds d
 pub draw-child : (m : Map) → Loadable m → (d : ℕ) (v w : ℕ → ℕ) → Raises (kids_of m) d v w → (seed x r b : ℕ)
     → (draw_of seed x r (children_of m b) (map v (children_of m b)) ≡ draw_of seed x r (children_of m b) (map w (children_of m b)))
-    ⊎ ((c : ℕ) × Memᴰ c (children_of m b) × Holds (kids_of m) c d × (draw_of seed x r (children_of m b) (map w (children_of m b)) ≡ Winner c))
+    ⊎ ((c : ℕ) × Memᴰ c (children_of m b) × Holds (kids_of m) c d × (draw_of seed x r (children_of m b) (map w (children_of m b)) ≡ Some c))
 draw-child m L d v w R seed x r b =
     ⊎_elim (λ e. inl (ap (λ (ws : List ℕ). draw_of seed x r (children_of m b) ws) e))
     (λ t.

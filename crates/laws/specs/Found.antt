@@ -3,7 +3,7 @@
 -- entry of a group's list is a hole or a device of the map. Assumes nothing.
 use Rattle.std.proofs.Math.Path.{◌≡◌, refl, subst}
 use Rattle.std.proofs.Common.{◌∙◌, le_of_lt}
-use Rattle.std.specs.Prelude.{Bool, ◌&&◌, ◌⊎◌, ltb}
+use Rattle.std.specs.Prelude.{Bool, ◌&&◌, ◌⊎◌, ltb, Option, None, Some}
 use Rattle.std.proofs.Math.Bool.{true, false, cond}
 use mathlib.Core.List.Memᴰ
 use mathlib.Core.List.{List, [], ◌∷◌, ◌++◌, Memᴰ}
@@ -17,8 +17,6 @@ use Rattle.definitions.specs.declared.Action.{Action}
 use Rattle.definitions.specs.declared.Action.TheVariants.{Take, Select, Emit, Idle}
 use Rattle.definitions.specs.declared.Bucket.{Bucket}
 use Rattle.definitions.specs.declared.Device.{Device}
-use Rattle.definitions.specs.declared.Drawn.{Drawn}
-use Rattle.definitions.specs.declared.Drawn.TheVariants.{Winner, Nothing}
 use Rattle.definitions.specs.declared.Link.{Link}
 use Rattle.definitions.specs.declared.Mode.{Mode}
 use Rattle.definitions.specs.declared.Mode.TheVariants.{FirstN, Independent, Through}
@@ -45,13 +43,13 @@ use Rattle.laws.specs.Forest.{type-bucket, kids-bucket, kid-link}
 
 -- item i is the winner of some draw of group x
 abbrev pub DrawnBy : View → ℕ → ℕ → Type 0
-DrawnBy v x i = (r : ℕ) × (b : ℕ) × (draw_at v x r b ≡ Winner i)
+DrawnBy v x i = (r : ℕ) × (b : ℕ) × (draw_at v x r b ≡ Some i)
 
 -- a hole, or an item of type t that was drawn
 abbrev pub Found : View → ℕ → ℕ → ℕ → Type 0
 Found v x t e = (e ≡ hole) ⊎ (DrawnBy v x e × (v.type e ≡ t))
 
-no-winner : (i : ℕ) → ◌≡◌ {A = Drawn} Nothing (Winner i) → ⊥
+no-winner : (i : ℕ) → ◌≡◌ {A = Option ℕ} None (Some i) → ⊥
 no-winner i e = let z : ◌≡◌ {A = ℕ} 0 1 = cc in omega arith
 
 no-fill : (s : State) (i e k : ℕ) → ◌≡◌ {A = Turn} (Fail s) (Fill i e k) → ⊥
@@ -61,20 +59,20 @@ no-fill s i e k q = let z : ◌≡◌ {A = ℕ} 0 1 = cc in omega arith
 
 -- what a descent comes to was drawn
 module _ (v : View) (x t : ℕ) where
-  descent-draws : (r k b i : ℕ) → (descend_in v x t r k b).landed.drawn ≡ Winner i → DrawnBy v x i
+  descent-draws : (r k b i : ℕ) → (descend_in v x t r k b).landed.drawn ≡ Some i → DrawnBy v x i
   unfolding descend_in on_drawn on_winner landing deeper
   descent-draws r zero b i e = absurd (no-winner i e)
   descent-draws r (suc k) b i e = from (draw_at v x r b) refl e (λ c. descent-draws r k c i)
     where
-      on : (j : ℕ) (u : Bool) → draw_at v x r b ≡ Winner j → (on_winner (descend_in v x t r k) r b j u).landed.drawn ≡ Winner i
-          → ((c : ℕ) → (descend_in v x t r k c).landed.drawn ≡ Winner i → DrawnBy v x i) → DrawnBy v x i
+      on : (j : ℕ) (u : Bool) → draw_at v x r b ≡ Some j → (on_winner (descend_in v x t r k) r b j u).landed.drawn ≡ Some i
+          → ((c : ℕ) → (descend_in v x t r k c).landed.drawn ≡ Some i → DrawnBy v x i) → DrawnBy v x i
       on j true q h rest = rest (bucket_number j) h
       on j false q h rest = (r, b, q ∙ h)
 
-      from : (d : Drawn) → draw_at v x r b ≡ d → (on_drawn v x t r (descend_in v x t r k) b d).landed.drawn ≡ Winner i
-          → ((c : ℕ) → (descend_in v x t r k c).landed.drawn ≡ Winner i → DrawnBy v x i) → DrawnBy v x i
-      from (Winner j) q h rest = on j (ltb t (v.type j)) q h rest
-      from Nothing q h rest = absurd (no-winner i h)
+      from : (d : Option ℕ) → draw_at v x r b ≡ d → (on_drawn v x t r (descend_in v x t r k) b d).landed.drawn ≡ Some i
+          → ((c : ℕ) → (descend_in v x t r k c).landed.drawn ≡ Some i → DrawnBy v x i) → DrawnBy v x i
+      from (Some j) q h rest = on j (ltb t (v.type j)) q h rest
+      from None q h rest = absurd (no-winner i h)
 
 -- item i of type t was drawn, and its test puts out e
 pub record Passes (v : View) (x t : ℕ) (test : ℕ → ℕ → Trial) (i e : ℕ) : Type 0 where
@@ -96,11 +94,11 @@ module _ (v : View) (x : ℕ) (mode : Mode) (n t : ℕ) (test : ℕ → ℕ → 
   verdict-fills s b i e k j f l Passed q = (refl, (let z : i ≡ j = cc in z), (let z : e ≡ f = cc in z))
 
   -- a place is filled with what the descent came to, of the wanted type
-  landed-fills : (s : State) (q j f l : ℕ) (c : Descent) (d : Drawn) → ((i : ℕ) → d ≡ Winner i → DrawnBy v x i)
+  landed-fills : (s : State) (q j f l : ℕ) (c : Descent) (d : Option ℕ) → ((i : ℕ) → d ≡ Some i → DrawnBy v x i)
       → (on_landed v x mode n t test start r s q c.landed.bucket c.events d).turn ≡ Fill j f l → Passes v x t test j f
   unfolding on_landed on_type tested untested on_tried
-  landed-fills s q j f l c Nothing o e = absurd (no-fill _ j f l e)
-  landed-fills s q j f l c (Winner i) o e = go (eqb (v.type i) t) refl e
+  landed-fills s q j f l c None o e = absurd (no-fill _ j f l e)
+  landed-fills s q j f l c (Some i) o e = go (eqb (v.type i) t) refl e
     where
       go : (u : Bool) → eqb (v.type i) t ≡ u → (on_type v x mode n t test start r s q c.landed.bucket c.events i u).turn ≡ Fill j f l
           → Passes v x t test j f

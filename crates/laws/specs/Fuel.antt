@@ -1,29 +1,26 @@
 -- No definition depends on where its fuel ends: more fuel than the type changes neither a weight nor a descent, and a rank ends with an
 -- item after fewer than 50 failures or with a hole after 50. Assumes nothing.
-use Rattle.std.specs.Prelude.{◌≡◌, ◌⊎◌, Bool, cond, ◌&&◌, leb, eqb}
+use Rattle.std.specs.Prelude.{◌≡◌, ◌⊎◌, Bool, cond, ◌&&◌, leb, eqb, Option, None, Some}
 use Rattle.std.proofs.Math.Path.{refl, ap, ap₂, sym}
-use Rattle.std.proofs.Common.{◌∙◌, subst, inl, ⊎_elim, lt-ltb, le-ltb, ltb-true, ltb-false, leb-true, leb-false, eqb-true, arith, add-zero, add-suc}
+use Rattle.std.proofs.Common.{subst, inl, ⊎_elim, ltb-true, leb-true, leb-false, eqb-true, arith, add-zero}
 use Rattle.std.proofs.Math.Logic.{inr}
 use Rattle.std.proofs.Math.Bool.{true, false}
 use Rattle.std.proofs.lemmas.Bool.{false≢true}
-use mathlib.Core.List.{List, [], ◌∷◌, ◌++◌, map}
-use Prim.Native.Nat.{ℕ, zero, suc, ◌+◌, ◌-◌, ◌<◌, ◌≤◌}
+use mathlib.Core.List.{List, [], ◌∷◌, map}
+use Prim.Native.Nat.{ℕ, zero, suc, ◌+◌, ◌<◌, ◌≤◌}
 use Rattle.std.proofs.Math.Dec.{ltb}
 use Rattle.definitions.specs.declared.Link.{Link}
 use Rattle.definitions.specs.declared.Mode.{Mode}
-use Rattle.definitions.specs.declared.Drawn.{Drawn}
-use Rattle.definitions.specs.declared.Drawn.TheVariants.{Winner, Nothing}
 use Rattle.definitions.specs.declared.Verdict.{Verdict}
 use Rattle.definitions.specs.declared.Verdict.TheVariants.{Held, Rejected, Passed}
 use Rattle.definitions.specs.declared.State.{State}
 use Rattle.definitions.specs.declared.Turn.{Turn}
 use Rattle.definitions.specs.declared.Turn.TheVariants.{Fill, Fail}
-use Rattle.definitions.specs.declared.Ranked.{Ranked}
 use Rattle.definitions.specs.Lists.{every, kept, sum}
 use Rattle.definitions.specs.Map.{Map, bucket_item, is_bucket, bucket_number}
-use Rattle.definitions.specs.View.{View, children_of, bucket_type, type_by, type_of, device_weight, weight_by, weight_in, weight_of}
+use Rattle.definitions.specs.View.{View, children_of, bucket_type, type_by, type_of, weight_by, weight_in, weight_of}
 use Rattle.definitions.specs.Load.{falling}
-use Rattle.definitions.specs.Walk.{hole, Descent, draw_at, landing, deeper, on_winner, on_drawn, descend_in, descend, Trial, try_number, failed_to, retry_at, rank_end, on_verdict, on_tried, tested, untested, onward, TurnEvents, RankEvents, after_turn, on_turn, on_type, on_landed, on_descent, turn_of, rank_from}
+use Rattle.definitions.specs.Walk.{hole, Descent, draw_at, landing, deeper, on_winner, on_drawn, descend_in, descend, Trial, try_number, failed_to, retry_at, rank_end, on_verdict, on_tried, tested, untested, onward, RankEvents, after_turn, on_turn, on_type, on_landed, on_descent, turn_of, rank_from}
 
 -- ---- weights
 
@@ -86,7 +83,7 @@ module _ (m : Map) (fall : falling m ≡ true) where
 
 -- the winner of a draw has a smaller type than the bucket drawn from, and a device has type 0
 pub record Sinks (v : View) : Type 0 where
-  pub drawn : (x r b i : ℕ) → draw_at v x r b ≡ Winner i → v.type i < v.type (bucket_item b)
+  pub drawn : (x r b i : ℕ) → draw_at v x r b ≡ Some i → v.type i < v.type (bucket_item b)
   pub device : (i : ℕ) → i < 65536 → v.type i ≡ 0
 
 module _ (v : View) (sinks : Sinks v) (x t r : ℕ) where
@@ -100,22 +97,22 @@ module _ (v : View) (sinks : Sinks v) (x t r : ℕ) where
 
   -- the two agree where the winner of the draw is gone down to
   by-drawn : (b : ℕ) (f g : ℕ → Descent)
-      → ((i : ℕ) → draw_at v x r b ≡ Winner i → t < v.type i → f (bucket_number i) ≡ g (bucket_number i))
-      → (d : Drawn) → draw_at v x r b ≡ d → on_drawn v x t r f b d ≡ on_drawn v x t r g b d
+      → ((i : ℕ) → draw_at v x r b ≡ Some i → t < v.type i → f (bucket_number i) ≡ g (bucket_number i))
+      → (d : Option ℕ) → draw_at v x r b ≡ d → on_drawn v x t r f b d ≡ on_drawn v x t r g b d
   unfolding on_drawn on_winner
-  by-drawn b f g agree Nothing e = refl
-  by-drawn b f g agree (Winner i) e = go (ltb t (v.type i)) refl
+  by-drawn b f g agree None e = refl
+  by-drawn b f g agree (Some i) e = go (ltb t (v.type i)) refl
     where
       go : (u : Bool) → ltb t (v.type i) ≡ u → on_winner f r b i u ≡ on_winner g r b i u
-      go true h = ap (deeper r b (Winner i)) (agree i e (ltb-true _ _ h))
+      go true h = ap (deeper r b (Some i)) (agree i e (ltb-true _ _ h))
       go false h = refl
 
   -- with nothing left to draw from
-  at_zero : (b : ℕ) (f : ℕ → Descent) → v.type (bucket_item b) ≤ 0 → (d : Drawn) → draw_at v x r b ≡ d
-      → landing r b Nothing ≡ on_drawn v x t r f b d
+  at_zero : (b : ℕ) (f : ℕ → Descent) → v.type (bucket_item b) ≤ 0 → (d : Option ℕ) → draw_at v x r b ≡ d
+      → landing r b None ≡ on_drawn v x t r f b d
   unfolding on_drawn
-  at_zero b f h Nothing e = refl
-  at_zero b f h (Winner i) e = absurd (omega (arith, sinks.drawn x r b i e))
+  at_zero b f h None e = refl
+  at_zero b f h (Some i) e = absurd (omega (arith, sinks.drawn x r b i e))
 
   descend-same : (k l b : ℕ) → v.type (bucket_item b) ≤ k → v.type (bucket_item b) ≤ l → descend_in v x t r k b ≡ descend_in v x t r l b
   unfolding descend_in
@@ -154,10 +151,10 @@ module _ (v : View) (x : ℕ) (mode : Mode) (n t : ℕ) (test : ℕ → ℕ → 
   verdict-fails s s' b i e k Rejected q = failed-is start k s s' q
   verdict-fails s s' b i e k Passed q = absurd (filled-not i e k s' q)
 
-  landed-fails : (s s' : State) (q : ℕ) (c : Descent) (d : Drawn) → (on_landed v x mode n t test start r s q c.landed.bucket c.events d).turn ≡ Fail s' → OneMore s s'
+  landed-fails : (s s' : State) (q : ℕ) (c : Descent) (d : Option ℕ) → (on_landed v x mode n t test start r s q c.landed.bucket c.events d).turn ≡ Fail s' → OneMore s s'
   unfolding on_landed on_type tested untested on_tried
-  landed-fails s s' q c Nothing e = failed-is start 0 s s' e
-  landed-fails s s' q c (Winner i) e = go (eqb (v.type i) t) e
+  landed-fails s s' q c None e = failed-is start 0 s s' e
+  landed-fails s s' q c (Some i) e = go (eqb (v.type i) t) e
     where
       go : (u : Bool) → (on_type v x mode n t test start r s q c.landed.bucket c.events i u).turn ≡ Fail s' → OneMore s s'
       go true h = let w = (test q i).tried in verdict-fails s s' c.landed.bucket i w.entry w.inner w.verdict h

@@ -1,11 +1,12 @@
 -- Document 01, "Hash": the table form of `mix` is the nine steps written out, and what a loop over the table needs. Assumes nothing.
-use Rattle.std.specs.Prelude.{◌≡◌, refl, true, List, [], ◌∷◌, ℕ, suc, ◌+◌, ◌-◌, ◌*◌, ◌/◌, ◌%◌, ◌^◌, ◌<◌, ltb, get_or, drop}
+use Rattle.std.specs.Prelude.{◌≡◌, refl, ℕ, ◌+◌, ◌*◌, ◌/◌, ◌%◌, ◌^◌, ◌<◌, ltb, get_or, drop}
 use Rattle.std.proofs.Common.{add-one, drop-cons, ltb-true}
 use Rattle.std.specs.Int.Bits.{bit_xor}
 use Rattle.definitions.specs.declared.Mix.{Mix}
-use Rattle.definitions.specs.declared.Row.{Row}
+use Rattle.definitions.specs.declared.Shift.{Shift}
+use Rattle.definitions.specs.declared.Shift.TheVariants.{Left}
 use Rattle.definitions.specs.Lists.{every}
-use Rattle.definitions.specs.Hash.{minus, three, right, rows, mix_step, mix_steps, mix}
+use Rattle.definitions.specs.Hash.{minus, places, three, rows, mix_step, mix_steps, mix}
 use Rattle.laws.specs.Lists.{every-at}
 
 -- the nine steps of `mix`, written out
@@ -27,11 +28,11 @@ unfolding mix nine mix_steps rows mix_step
 mix-written-out a b c = refl
 
 -- each shift is by fewer places than a number has
-pub row_small : (i : ℕ) → i < 9 → (get_or rows i (right 0)).1 < 32
+pub row_small : (i : ℕ) → i < 9 → places (get_or rows i (Left 0)) < 32
 unfolding rows every
-row_small i h = ltb-true _ _ (every-at (λ (r : Row). ltb r.1 32) rows i (right 0) refl h)
+row_small i h = ltb-true _ _ (every-at (λ (r : Shift). ltb (places r) 32) rows i (Left 0) refl h)
 
 -- step i and the steps behind it
-pub step-more : (i : ℕ) (m : Mix) → i < 9 → mix_steps (drop (i + 1) rows) (mix_step (get_or rows i (right 0)) m) ≡ mix_steps (drop i rows) m
+pub step-more : (i : ℕ) (m : Mix) → i < 9 → mix_steps (drop (i + 1) rows) (mix_step (get_or rows i (Left 0)) m) ≡ mix_steps (drop i rows) m
 unfolding rows mix_steps
-step-more i m h = rw (add-one, drop-cons rows i (right 0) h)
+step-more i m h = rw (add-one, drop-cons rows i (Left 0) h)

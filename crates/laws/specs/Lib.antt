@@ -20,3 +20,4 @@ pub mod Origins
 pub mod OnePlace
 pub mod FirstBlock
 pub mod Tries
+pub mod Chains

@@ -1,5 +1,5 @@
 -- What holds of a map that load takes, by its record: how large it is, and that a fitting edit leaves it so. Assumes nothing.
-use Rattle.std.specs.Prelude.{◌≡◌, cond, ◌&&◌, ◌||◌, ◌⊎◌, length, get_or}
+use Rattle.std.specs.Prelude.{◌≡◌, cond, ◌&&◌, ◌||◌, ◌⊎◌, length, get_or, Option, None, Some}
 use Rattle.std.proofs.Math.Path.{refl, sym, ap}
 use Rattle.std.proofs.Common.{◌∙◌, inl, inr, arith, leb-true, ltb-true, eqb-true, lt-ltb, le-leb, eq-eqb}
 use Rattle.std.proofs.Math.Bool.{Bool, true, false}
@@ -15,7 +15,7 @@ use Rattle.definitions.specs.declared.Action.TheVariants.{Take, Select, Emit, Id
 use Rattle.definitions.specs.declared.Standing.{Standing}
 use Rattle.definitions.specs.declared.Standing.TheVariants.{Outside, Inside, Broken}
 use Rattle.definitions.specs.declared.Change.{Change}
-use Rattle.definitions.specs.declared.Change.TheVariants.{Acceptance, Weight, Malformed}
+use Rattle.definitions.specs.declared.Change.TheVariants.{Acceptance, Weight}
 use Rattle.definitions.specs.Lists.{every, some_of, linked, lookup, sum, first_no}
 use Rattle.definitions.specs.Map.{Map, bucket_item, is_bucket, bucket_number, actions_of}
 use Rattle.definitions.specs.View.{children_of, bucket_type, kind_from, kind_number, bucket_kind, type_by, type_of, acceptance_of, device_weight, weight_by, weight_in, weight_of}
@@ -319,41 +319,41 @@ keeps-weighing d w e = cond-keeps number (eqb e.number d) (weighing w e) e refl
 
 module _ (m : Map) where
   -- the groups
-  pub put-groups : (c : Change) → (put m c).groups ≡ m.groups
+  pub put-groups : (c : Option Change) → (put m c).groups ≡ m.groups
   unfolding put with_sums
-  put-groups (Acceptance d a) = refl
-  put-groups (Weight d w) = refl
-  put-groups Malformed = refl
+  put-groups (Some (Acceptance d a)) = refl
+  put-groups (Some (Weight d w)) = refl
+  put-groups None = refl
 
   -- the buckets, but for the weights that are written of them
-  put-buckets : (P : List Bucket → Type 0) → P m.buckets → ((n : Map) → P (map (with_sum n) m.buckets)) → (c : Change) → P (put m c).buckets
+  put-buckets : (P : List Bucket → Type 0) → P m.buckets → ((n : Map) → P (map (with_sum n) m.buckets)) → (c : Option Change) → P (put m c).buckets
   unfolding put with_sums
-  put-buckets P p q (Acceptance d a) = p
-  put-buckets P p q (Weight d w) = q (with_devices m (map (with_weight d w) m.devices))
-  put-buckets P p q Malformed = p
+  put-buckets P p q (Some (Acceptance d a)) = p
+  put-buckets P p q (Some (Weight d w)) = q (with_devices m (map (with_weight d w) m.devices))
+  put-buckets P p q None = p
 
   -- the links
-  pub put-links : (c : Change) → (put m c).links ≡ m.links
+  pub put-links : (c : Option Change) → (put m c).links ≡ m.links
   unfolding put with_sums
-  put-links (Acceptance d a) = refl
-  put-links (Weight d w) = refl
-  put-links Malformed = refl
+  put-links (Some (Acceptance d a)) = refl
+  put-links (Some (Weight d w)) = refl
+  put-links None = refl
 
   -- the steps
-  pub put-steps : (c : Change) → (put m c).steps ≡ m.steps
+  pub put-steps : (c : Option Change) → (put m c).steps ≡ m.steps
   unfolding put with_sums
-  put-steps (Acceptance d a) = refl
-  put-steps (Weight d w) = refl
-  put-steps Malformed = refl
+  put-steps (Some (Acceptance d a)) = refl
+  put-steps (Some (Weight d w)) = refl
+  put-steps None = refl
 
   -- the devices' numbers
-  pub put-numbers : (c : Change) → numbers (put m c) ≡ numbers m
+  pub put-numbers : (c : Option Change) → numbers (put m c) ≡ numbers m
   unfolding put with_sums
-  put-numbers (Acceptance d a) = map-keeps (λ (e : Device). e.number) (with_acceptance d a) (keeps-accepting d a) m.devices
-  put-numbers (Weight d w) = map-keeps (λ (e : Device). e.number) (with_weight d w) (keeps-weighing d w) m.devices
-  put-numbers Malformed = refl
+  put-numbers (Some (Acceptance d a)) = map-keeps (λ (e : Device). e.number) (with_acceptance d a) (keeps-accepting d a) m.devices
+  put-numbers (Some (Weight d w)) = map-keeps (λ (e : Device). e.number) (with_weight d w) (keeps-weighing d w) m.devices
+  put-numbers None = refl
 
-module _ (m : Map) (c : Change) where
+module _ (m : Map) (c : Option Change) where
   -- how many devices there are
   pub put-length : length (put m c).devices ≡ length m.devices
   put-length =
@@ -519,28 +519,28 @@ module _ (m : Map) (c : Change) where
 
 module _ (m : Map) (d v : ℕ) where
   -- an edit of an acceptance changes that of d alone
-  pub put-acceptance : has_device m d ≡ true → (e : ℕ) → acceptance_of (put m (Acceptance d v)) e ≡ cond (eqb e d) v (acceptance_of m e)
+  pub put-acceptance : has_device m d ≡ true → (e : ℕ) → acceptance_of (put m (Some (Acceptance d v))) e ≡ cond (eqb e d) v (acceptance_of m e)
   unfolding has_device acceptance_of put
   put-acceptance h e =
       lookup-puts (λ (x : Device). x.number) (λ (x : Device). x.acceptance) (with_acceptance d v) (keeps-accepting d v) d v
       (λ x. cond-ap acceptance (eqb x.number d) (accepting v x) x) m.devices h e
 
   -- and no device's weight
-  pub acceptance-leaves-weight : (e : ℕ) → device_weight (put m (Acceptance d v)) e ≡ device_weight m e
+  pub acceptance-leaves-weight : (e : ℕ) → device_weight (put m (Some (Acceptance d v))) e ≡ device_weight m e
   unfolding device_weight put
   acceptance-leaves-weight e =
       lookup-keeps (λ (x : Device). x.number) (λ (x : Device). x.weight) (with_acceptance d v) (keeps-accepting d v)
       (λ x. cond-keeps weight (eqb x.number d) (accepting v x) x refl) e m.devices
 
   -- an edit of a weight changes that of d alone
-  pub put-weight : has_device m d ≡ true → (e : ℕ) → device_weight (put m (Weight d v)) e ≡ cond (eqb e d) v (device_weight m e)
+  pub put-weight : has_device m d ≡ true → (e : ℕ) → device_weight (put m (Some (Weight d v))) e ≡ cond (eqb e d) v (device_weight m e)
   unfolding has_device device_weight put with_sums
   put-weight h e =
       lookup-puts (λ (x : Device). x.number) (λ (x : Device). x.weight) (with_weight d v) (keeps-weighing d v) d v
       (λ x. cond-ap weight (eqb x.number d) (weighing v x) x) m.devices h e
 
   -- and no device's acceptance
-  pub weight-leaves-acceptance : (e : ℕ) → acceptance_of (put m (Weight d v)) e ≡ acceptance_of m e
+  pub weight-leaves-acceptance : (e : ℕ) → acceptance_of (put m (Some (Weight d v))) e ≡ acceptance_of m e
   unfolding acceptance_of put with_sums
   weight-leaves-acceptance e =
       lookup-keeps (λ (x : Device). x.number) (λ (x : Device). x.acceptance) (with_weight d v) (keeps-weighing d v)
@@ -575,9 +575,9 @@ module _ (m n : Map) (kids : (b : ℕ) → children_of n b ≡ children_of m b) 
       go false = refl
 
 -- an edit of an acceptance changes no weight
-pub acceptance-leaves-weights : (m : Map) (d a i : ℕ) → weight_of (put m (Acceptance d a)) i ≡ weight_of m i
+pub acceptance-leaves-weights : (m : Map) (d a i : ℕ) → weight_of (put m (Some (Acceptance d a))) i ≡ weight_of m i
 acceptance-leaves-weights m d a =
-    same-weights m (put m (Acceptance d a)) (put-children m (Acceptance d a)) (put-bucket-type m (Acceptance d a)) (acceptance-leaves-weight m d a)
+    same-weights m (put m (Some (Acceptance d a))) (put-children m (Some (Acceptance d a))) (put-bucket-type m (Some (Acceptance d a))) (acceptance-leaves-weight m d a)
 
 -- nor does what is written of the buckets
 pub sums-leave-weights : (m : Map) (i : ℕ) → weight_of (with_sums m) i ≡ weight_of m i
@@ -591,16 +591,16 @@ abbrev written : (ℕ → ℕ) → Bucket → Bool
 written w b = eqb b.weight (w (bucket_item b.number))
 
 -- question 23 is answered yes after any edit
-pub put-summed : (m : Map) (c : Change) → summed m ≡ true → summed (put m c) ≡ true
+pub put-summed : (m : Map) (c : Option Change) → summed m ≡ true → summed (put m c) ≡ true
 unfolding summed put with_sums
-put-summed m (Acceptance d a) e =
-    every-ext (written (weight_of (put m (Acceptance d a)))) (written (weight_of m)) m.buckets (λ b. ap (eqb b.weight) (acceptance-leaves-weights m d a (bucket_item b.number))) ∙ e
-put-summed m (Weight d w) e =
+put-summed m (Some (Acceptance d a)) e =
+    every-ext (written (weight_of (put m (Some (Acceptance d a))))) (written (weight_of m)) m.buckets (λ b. ap (eqb b.weight) (acceptance-leaves-weights m d a (bucket_item b.number))) ∙ e
+put-summed m (Some (Weight d w)) e =
     let n = with_devices m (map (with_weight d w) m.devices) in
     every_map (written (weight_of (with_sums n))) (with_sum n) m.buckets
     ∙ every-all (λ (b : Bucket). written (weight_of (with_sums n)) (with_sum n b)) m.buckets
     (λ b. eq-eqb (weight_of n (bucket_item b.number)) _ (sym (sums-leave-weights n (bucket_item b.number))))
-put-summed m Malformed e = e
+put-summed m None e = e
 
 -- ---- an edit that fits
 
@@ -616,24 +616,24 @@ weighing-ranged d w h e r =
     let s = ranged-device (weighing w e) (record { number = q.number; weight = h; acceptance = q.acceptance }) in
     cond-keeps device_ranged (eqb e.number d) (weighing w e) e (s ∙ sym r) ∙ r
 
-devices-ranged : (m : Map) (c : Change) → fits m c ≡ true → every device_ranged m.devices ≡ true → every device_ranged (put m c).devices ≡ true
+devices-ranged : (m : Map) (c : Option Change) → fits m c ≡ true → every device_ranged m.devices ≡ true → every device_ranged (put m c).devices ≡ true
 unfolding fits put with_sums
-devices-ranged m (Acceptance d a) f e =
+devices-ranged m (Some (Acceptance d a)) f e =
     every_map device_ranged (with_acceptance d a) m.devices
     ∙ every-mono device_ranged (λ (x : Device). device_ranged (with_acceptance d a x)) m.devices
     (accepting-ranged d a (leb-true a 65536 (both (has_device m d) (leb a 65536) f).1)) e
-devices-ranged m (Weight d w) f e =
+devices-ranged m (Some (Weight d w)) f e =
     every_map device_ranged (with_weight d w) m.devices
     ∙ every-mono device_ranged (λ (x : Device). device_ranged (with_weight d w x)) m.devices
     (weighing-ranged d w (leb-true w 65535 (both (has_device m d) (leb w 65535) f).1)) e
-devices-ranged m Malformed f e = e
+devices-ranged m None f e = e
 
-buckets-ranged : (m : Map) (c : Change) → every bucket_ranged (put m c).buckets ≡ every bucket_ranged m.buckets
+buckets-ranged : (m : Map) (c : Option Change) → every bucket_ranged (put m c).buckets ≡ every bucket_ranged m.buckets
 unfolding bucket_ranged
 buckets-ranged m c = put-every m c bucket_ranged (λ n b. refl)
 
 -- question 5 is answered yes after a fitting edit
-pub put-ranged : (m : Map) (c : Change) → fits m c ≡ true → ranged m ≡ true → ranged (put m c) ≡ true
+pub put-ranged : (m : Map) (c : Option Change) → fits m c ≡ true → ranged m ≡ true → ranged (put m c) ≡ true
 put-ranged m c f e =
     let r = ranged-is m e in
     is-ranged (put m c)
@@ -646,12 +646,12 @@ put-ranged m c f e =
       steps = rw (put-steps m c) r.steps;
     })
 
-pub put_typed : (m : Map) (c : Change) → typed (put m c) ≡ typed m
+pub put_typed : (m : Map) (c : Option Change) → typed (put m c) ≡ typed m
 unfolding typed
 put_typed m c = rw (put-actions m c)
 
 -- a fitting edit leaves a loadable map
-pub put-loadable : (m : Map) (c : Change) → Loadable m → fits m c ≡ true → Loadable (put m c)
+pub put-loadable : (m : Map) (c : Option Change) → Loadable m → fits m c ≡ true → Loadable (put m c)
 put-loadable m c l f =
     let g = put-ranged m c f l.ranged in
     let r = put-rising m c ∙ l.rising in

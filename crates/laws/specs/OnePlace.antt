@@ -2,7 +2,7 @@
 -- own; so in a loadable map no device stands twice in a group's list (proofs/OnePlace.antt shows both). Assumes nothing.
 use Rattle.std.proofs.Math.Path.{◌≡◌, refl, subst}
 use Rattle.std.proofs.Common.{sym, ◌∙◌, arith, ltb-true}
-use Rattle.std.specs.Prelude.{Bool, ◌⊎◌, eqb}
+use Rattle.std.specs.Prelude.{Bool, ◌⊎◌, eqb, Some}
 use Rattle.std.proofs.Math.Bool.{true, false, cond, false≢true}
 use mathlib.Core.List.{List, ◌++◌, Memᴰ}
 use Rattle.std.proofs.Math.Logic.{inl, inr, ⊎_elim}
@@ -10,7 +10,6 @@ use Prim.Native.Nat.{ℕ, ◌<◌}
 use Rattle.std.proofs.Math.Decide.{dec_lt}
 use Rattle.std.proofs.Math.ListN.{length, get_or}
 use Rattle.definitions.specs.declared.Action.TheVariants.{Select}
-use Rattle.definitions.specs.declared.Drawn.TheVariants.{Winner}
 use Rattle.definitions.specs.declared.Mode.{Mode}
 use Rattle.definitions.specs.declared.Mode.TheVariants.{FirstN, Independent, Through}
 use Rattle.definitions.specs.declared.Ranked.{Ranked}
@@ -116,7 +115,7 @@ alone_at es A e f j l g h p q = go (dec_lt j l) (dec_lt l j)
 beneath-holds : (m : Map) {x b i : ℕ} → Beneath (view_of m) x b i → Holds (kids_of m) (bucket_item b) i
 beneath-holds m {x} {b} {i} o = go o
   where
-    kid : (r c j : ℕ) → draw_at (view_of m) x r c ≡ Winner j → Memᴰ j (kids_of m (bucket_item c))
+    kid : (r c j : ℕ) → draw_at (view_of m) x r c ≡ Some j → Memᴰ j (kids_of m (bucket_item c))
     kid r c j e = rw (kids-bucket m c) (drawn-child m x r c j e).0
 
     go : {j : ℕ} → Beneath (view_of m) x b j → Holds (kids_of m) (bucket_item b) j

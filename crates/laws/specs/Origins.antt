@@ -4,7 +4,7 @@
 -- all weigh 0. Assumes nothing.
 use Rattle.std.proofs.Math.Path.{◌≡◌, refl, ap, subst}
 use Rattle.std.proofs.Common.{sym, ◌∙◌, le_of_lt, ltb-true, eqb-true}
-use Rattle.std.specs.Prelude.{Bool, ◌⊎◌, ltb, get_or}
+use Rattle.std.specs.Prelude.{Bool, ◌⊎◌, ltb, get_or, Option, None, Some}
 use Rattle.std.proofs.Math.Bool.{true, false, cond}
 use mathlib.Core.List.{List, [], ◌∷◌, Memᴰ}
 use Rattle.std.proofs.Math.Logic.{inl, inr, ⊎_elim}
@@ -14,8 +14,6 @@ use Rattle.std.proofs.Math.Dec.{eqb}
 use Rattle.std.proofs.Math.ListN.{length, length-map}
 use Rattle.definitions.specs.declared.Action.{Action}
 use Rattle.definitions.specs.declared.Action.TheVariants.{Take, Select, Emit, Idle}
-use Rattle.definitions.specs.declared.Drawn.{Drawn}
-use Rattle.definitions.specs.declared.Drawn.TheVariants.{Winner, Nothing}
 use Rattle.definitions.specs.declared.Event.{Event}
 use Rattle.definitions.specs.declared.Event.TheVariants.{Drew, Tested}
 use Rattle.definitions.specs.declared.Mode.{Mode}
@@ -60,8 +58,8 @@ made_so v x P Q F G h o (Tested i w) u = o i u
 
 -- item i was come to from bucket b by draws of group x, one or more
 pub data Beneath (v : View) (x b : ℕ) : ℕ → Type 0 where
-  drew : {i : ℕ} (r : ℕ) → draw_at v x r b ≡ Winner i → Beneath v x b i
-  further : {i : ℕ} (r c : ℕ) → Beneath v x b (bucket_item c) → draw_at v x r c ≡ Winner i → Beneath v x b i
+  drew : {i : ℕ} (r : ℕ) → draw_at v x r b ≡ Some i → Beneath v x b i
+  further : {i : ℕ} (r c : ℕ) → Beneath v x b (bucket_item c) → draw_at v x r c ≡ Some i → Beneath v x b i
 
 beneath-drawn : {v : View} {x b i : ℕ} → Beneath v x b i → DrawnBy v x i
 beneath-drawn {b} (drew r e) = (r, b, e)
@@ -72,8 +70,8 @@ abbrev pub From : View → ℕ → ℕ → ℕ → Type 0
 From v x start b = (b ≡ start) ⊎ Beneath v x start (bucket_item b)
 
 -- what is drawn there is beneath the start
-from-drawn : (v : View) (x start b r i : ℕ) → From v x start b → draw_at v x r b ≡ Winner i → Beneath v x start i
-from-drawn v x start b r i (inl q) e = drew r (subst (λ (c : ℕ). draw_at v x r c ≡ Winner i) q e)
+from-drawn : (v : View) (x start b r i : ℕ) → From v x start b → draw_at v x r b ≡ Some i → Beneath v x start i
+from-drawn v x start b r i (inl q) e = drew r (subst (λ (c : ℕ). draw_at v x r c ≡ Some i) q e)
 from-drawn v x start b r i (inr p) e = further r b p e
 
 -- and such that it can be drawn from
@@ -82,8 +80,8 @@ record Source (v : View) (x start b : ℕ) : Type 0 where
   typed : 0 < v.type (bucket_item b)
 
 module _ (v : View) (sinks : Sinks v) (x start t r : ℕ) (Of : ℕ → Type 0) where
-  abbrev Ended : Drawn → Type 0
-  Ended d = (i : ℕ) → d ≡ Winner i → Beneath v x start i
+  abbrev Ended : Option ℕ → Type 0
+  Ended d = (i : ℕ) → d ≡ Some i → Beneath v x start i
 
   abbrev Descends : Descent → Type 0
   Descends d = Draws v x (From v x start) Of d.events × Source v x start d.landed.bucket × Ended d.landed.drawn
@@ -93,29 +91,29 @@ module _ (v : View) (sinks : Sinks v) (x start t r : ℕ) (Of : ℕ → Type 0) 
   descent-made zero b l o = absurd (omega (arith, o.typed))
   descent-made (suc k) b l o = go (draw_at v x r b) refl (descent-made k)
     where
-      here : (d : Drawn) → draw_at v x r b ≡ d → Draws v x (From v x start) Of (Drew b r d ∷ [])
+      here : (d : Option ℕ) → draw_at v x r b ≡ d → Draws v x (From v x start) Of (Drew b r d ∷ [])
       here d e = each-one _ (Drew b r d) (sym e, o.from)
 
-      ended : (d : Drawn) → draw_at v x r b ≡ d → Ended d
+      ended : (d : Option ℕ) → draw_at v x r b ≡ d → Ended d
       ended d e i q = from-drawn v x start b r i o.from (e ∙ q)
 
-      on : (i : ℕ) → draw_at v x r b ≡ Winner i → (u : Bool) → ltb t (v.type i) ≡ u
+      on : (i : ℕ) → draw_at v x r b ≡ Some i → (u : Bool) → ltb t (v.type i) ≡ u
           → ((c : ℕ) → v.type (bucket_item c) ≤ k → Source v x start c → Descends (descend_in v x t r k c))
           → Descends (on_winner (descend_in v x t r k) r b i u)
-      on i e false q below = (here (Winner i) e, o, ended (Winner i) e)
+      on i e false q below = (here (Some i) e, o, ended (Some i) e)
       on i e true q below =
           let h = ltb-true t (v.type i) q in
           let same = is-bucket v sinks x t r i h in
           let z = ap v.type same in
           let (es, c, f) = below (bucket_number i) (omega (arith, z, sinks.drawn x r b i e))
           (record { from = inr (subst (Beneath v x start) (sym same) (from-drawn v x start b r i o.from e)); typed = omega (arith, z, h) }) in
-          (each_more _ (Drew b r (Winner i) ∷ []) _ (here (Winner i) e) es, c, f)
+          (each_more _ (Drew b r (Some i) ∷ []) _ (here (Some i) e) es, c, f)
 
-      go : (d : Drawn) → draw_at v x r b ≡ d
+      go : (d : Option ℕ) → draw_at v x r b ≡ d
           → ((c : ℕ) → v.type (bucket_item c) ≤ k → Source v x start c → Descends (descend_in v x t r k c))
           → Descends (on_drawn v x t r (descend_in v x t r k) b d)
-      go Nothing e below = (here Nothing e, o, ended Nothing e)
-      go (Winner i) e below = on i e (ltb t (v.type i)) refl below
+      go None e below = (here None e, o, ended None e)
+      go (Some i) e below = on i e (ltb t (v.type i)) refl below
 
 module _ (v : View) (sinks : Sinks v) (x : ℕ) (mode : Mode) (n t : ℕ) (test : ℕ → ℕ → Trial) (start r : ℕ) (Of : ℕ → Type 0)
     (inside : (q i : ℕ) → Beneath v x start i → v.type i ≡ t → Draws v x (From v x start) Of (test q i).events)
@@ -159,11 +157,11 @@ module _ (v : View) (sinks : Sinks v) (x : ℕ) (mode : Mode) (n t : ℕ) (test 
   verdict-fills s b i e k Passed o j f l q = let z : i ≡ j = cc in subst (Beneath v x start) z o
 
   landed_made : (s : State) (q : ℕ) (c : Descent) → Draws v x (From v x start) Of c.events → Source v x start c.landed.bucket
-      → (d : Drawn) → Ended v sinks x start t q Of d
+      → (d : Option ℕ) → Ended v sinks x start t q Of d
       → Turns (on_landed v x mode n t test start r s q c.landed.bucket c.events d)
   unfolding on_landed on_type tested on_tried
-  landed_made s q c es o Nothing f = untested-made s c.events es
-  landed_made s q c es o (Winner i) f = go (eqb (v.type i) t) refl
+  landed_made s q c es o None f = untested-made s c.events es
+  landed_made s q c es o (Some i) f = go (eqb (v.type i) t) refl
     where
       go : (u : Bool) → eqb (v.type i) t ≡ u → Turns (on_type v x mode n t test start r s q c.landed.bucket c.events i u)
       go true e =
@@ -279,7 +277,7 @@ module _ (m : Map) (L : Loadable m) (x : ℕ) where
   drawn-weighs i (r, b, e) = (drawn-child m x r b i e).1
 
   -- so a bucket that was drawn has no such draw
-  pub drawn-finds : (r b : ℕ) → DrawnBy (view_of m) x (bucket_item b) → draw_at (view_of m) x r b ≡ Nothing → ⊥
+  pub drawn-finds : (r b : ℕ) → DrawnBy (view_of m) x (bucket_item b) → draw_at (view_of m) x r b ≡ None → ⊥
   unfolding weights_of
   drawn-finds r b d e =
       let z = sum-none (weights_of m b) (λ n l. drawn-none m x r b e n (omega (arith, l, length-map (children_of m b) (weight_of m)))) in
@@ -379,7 +377,7 @@ module _ (m : Map) (L : Loadable m) (x : ℕ) where
       let ps = (run_to (view_of m) x (actions_of m) (length (actions_of m))).list in
       each_more _ ps _ (run-grounded (length (actions_of m)) (omega arith)).1 (each-copies _ (width_of m - length ps) nowhere (each_none _))
 
-  ground-none : (b q : ℕ) → (Nothing ≡ draw_at (view_of m) x q b) × Ground b → Weightless m b
+  ground-none : (b q : ℕ) → (None ≡ draw_at (view_of m) x q b) × Ground b → Weightless m b
   ground-none b q (e, g) =
       record {
         taken = t;
@@ -393,9 +391,9 @@ module _ (m : Map) (L : Loadable m) (x : ℕ) where
   -- only a bucket that was taken can have a draw that finds none: in a rank that a select of the rule makes, left out by first-n or not
   pub rank-none : (k n t : ℕ) (mode : Mode) → get_or (actions_of m) k Idle ≡ Select mode n t
       → (p : Place) → Memᴰ p (run_to (view_of m) x (actions_of m) k).working → (p.entry ≡ hole → ⊥) → (held : List ℕ) (r f₀ b q : ℕ)
-      → Memᴰ (Drew b q Nothing) (rank_of (view_of m) x mode n t held (bucket_number p.entry) r f₀).events → Weightless m b
-  rank-none k n t mode e p i f held r f₀ b q j = ground-none b q (rank-grounded k n t mode e p i f held r f₀ (Drew b q Nothing) j)
+      → Memᴰ (Drew b q None) (rank_of (view_of m) x mode n t held (bucket_number p.entry) r f₀).events → Weightless m b
+  rank-none k n t mode e p i f held r f₀ b q j = ground-none b q (rank-grounded k n t mode e p i f held r f₀ (Drew b q None) j)
 
   -- and in the walk of a place of the group's list
-  pub list-none : (p : Place) → Memᴰ p (placed_of m x).places → (b q : ℕ) → Memᴰ (Drew b q Nothing) p.walk → Weightless m b
-  list-none p i b q j = ground-none b q (list-grounded p i (Drew b q Nothing) j)
+  pub list-none : (p : Place) → Memᴰ p (placed_of m x).places → (b q : ℕ) → Memᴰ (Drew b q None) p.walk → Weightless m b
+  list-none p i b q j = ground-none b q (list-grounded p i (Drew b q None) j)

@@ -2,7 +2,7 @@
 -- two draws part whose weights differ at one child. Assumes nothing.
 use Rattle.std.proofs.Math.Path.{◌≡◌, refl, sym, ap, subst}
 use Rattle.std.proofs.Common.{◌∙◌, mul-le-mul_right, mul-add, pow-suc, pow_mono}
-use Rattle.std.specs.Prelude.{Bool, List, [], ◌∷◌, ◌⊎◌, leb}
+use Rattle.std.specs.Prelude.{Bool, List, [], ◌∷◌, ◌⊎◌, leb, Option, None, Some}
 use Rattle.std.proofs.Math.Bool.{true, false, cond}
 use Rattle.std.proofs.Math.Logic.{inl, inr, ⊎_elim}
 use Prim.Native.Nat.{ℕ, zero, suc, ◌+◌, ◌*◌, ◌/◌, ◌%◌, ◌^◌, ◌<◌, ◌≤◌}
@@ -15,10 +15,9 @@ use Rattle.std.proofs.lemmas.Nat.{xor_lt}
 use Rattle.std.proofs.Math.Dec.{ltb, eqb}
 use Rattle.std.proofs.Math.ListN.{length, get_or, get_or-eq_default}
 use Rattle.definitions.specs.declared.Mix.{Mix}
-use Rattle.definitions.specs.declared.Drawn.{Drawn}
-use Rattle.definitions.specs.declared.Drawn.TheVariants.{Winner, Nothing}
 use Rattle.definitions.specs.Lists.{distinct}
-use Rattle.definitions.specs.Hash.{minus, left, right, rows, mix_step, mix_steps, mix, hash4}
+use Rattle.definitions.specs.declared.Shift.TheVariants.{Left, Right}
+use Rattle.definitions.specs.Hash.{minus, rows, mix_step, mix_steps, mix, hash4}
 use Rattle.definitions.specs.Tree.{label_of, height_to, height_of, node_weight, turns_left, node_below, leaf_from, tree_by, tree_of}
 use Rattle.laws.specs.Members.{one_index}
 
@@ -27,11 +26,11 @@ use Rattle.laws.specs.Members.{one_index}
 step-lt : (x y z w : ℕ) → w < 2 ^ 32 → bit_xor (minus (minus x y) z) w < 2 ^ 32
 step-lt x y z w h = xor_lt 32 (minus (minus x y) z) w (omega arith) h
 
-left_lt : (n : ℕ) (m : Mix) → (mix_step (left n) m).c < 2 ^ 32
+left_lt : (n : ℕ) (m : Mix) → (mix_step (Left n) m).c < 2 ^ 32
 unfolding mix_step
 left_lt n m = step-lt m.a m.b m.c ((m.c * 2 ^ n) % 2 ^ 32) (omega arith)
 
-right_lt : (m : Mix) → m.c < 2 ^ 32 → (mix_step (right 15) m).c < 2 ^ 32
+right_lt : (m : Mix) → m.c < 2 ^ 32 → (mix_step (Right 15) m).c < 2 ^ 32
 unfolding mix_step
 right_lt m h = step-lt m.a m.b m.c (m.c / 2 ^ 15) (omega arith)
 
@@ -186,12 +185,12 @@ module _ (seed x r item : ℕ) (ws : List ℕ) where
 
   -- "A bucket with one child draws that child, or none at weight 0."
   module _ (w i : ℕ) where
-    one-by : (b : Bool) → eqb w 0 ≡ b → tree_of seed x r item (w ∷ []) (i ∷ []) ≡ cond b Nothing (Winner i)
+    one-by : (b : Bool) → eqb w 0 ≡ b → tree_of seed x r item (w ∷ []) (i ∷ []) ≡ cond b None (Some i)
     unfolding tree_of tree_by leaf_from node_weight height_of height_to
     one-by true e = rw e
     one-by false e = rw e
 
-    pub one-child : tree_of seed x r item (w ∷ []) (i ∷ []) ≡ cond (eqb w 0) Nothing (Winner i)
+    pub one-child : tree_of seed x r item (w ∷ []) (i ∷ []) ≡ cond (eqb w 0) None (Some i)
     one-child = one-by (eqb w 0) refl
 
   module _ (items : List ℕ) (paired : length ws ≡ length items) where
@@ -199,12 +198,12 @@ module _ (seed x r item : ℕ) (ws : List ℕ) where
     total = node_weight ws (height_of (length items)) 0
 
     -- the winner is a child of weight above 0
-    pub tree-child : (i : ℕ) → tree_of seed x r item ws items ≡ Winner i
+    pub tree-child : (i : ℕ) → tree_of seed x r item ws items ≡ Some i
         → (n : ℕ) × (n < length items) × (get_or items n 0 ≡ i) × (0 < get_or ws n 0)
     unfolding tree_of tree_by
     tree-child i = go (eqb total 0) refl
       where
-        go : (b : Bool) → eqb total 0 ≡ b → tree_by seed x r item ws items b ≡ Winner i → (n : ℕ) × (n < length items) × (get_or items n 0 ≡ i) × (0 < get_or ws n 0)
+        go : (b : Bool) → eqb total 0 ≡ b → tree_by seed x r item ws items b ≡ Some i → (n : ℕ) × (n < length items) × (get_or items n 0 ≡ i) × (0 < get_or ws n 0)
         go true e q = absurd (let z : ◌≡◌ {A = ℕ} 0 1 = cc in omega arith)
         go false e q =
             let n = leaf_from seed x r item ws (height_of (length items)) 0 in
@@ -214,8 +213,8 @@ module _ (seed x r item : ℕ) (ws : List ℕ) where
             (n, omega arith, (let w : get_or items n 0 ≡ i = cc in w), p)
 
     -- none exactly where there is no child of weight above 0
-    pub tree-none : (tree_of seed x r item ws items ≡ Nothing → (n : ℕ) → n < length items → get_or ws n 0 ≡ 0)
-        × (((n : ℕ) → n < length items → get_or ws n 0 ≡ 0) → tree_of seed x r item ws items ≡ Nothing)
+    pub tree-none : (tree_of seed x r item ws items ≡ None → (n : ℕ) → n < length items → get_or ws n 0 ≡ 0)
+        × (((n : ℕ) → n < length items → get_or ws n 0 ≡ 0) → tree_of seed x r item ws items ≡ None)
     unfolding tree_of tree_by
     tree-none = go (eqb total 0) refl
       where
@@ -227,8 +226,8 @@ module _ (seed x r item : ℕ) (ws : List ℕ) where
             at false e = get_or-eq_default ws 0 {n = n} (let q : length items ≤ n = ltb-false n (length items) e in omega arith)
 
         go : (b : Bool) → eqb total 0 ≡ b
-            → (tree_by seed x r item ws items b ≡ Nothing → (n : ℕ) → n < length items → get_or ws n 0 ≡ 0)
-            × (((n : ℕ) → n < length items → get_or ws n 0 ≡ 0) → tree_by seed x r item ws items b ≡ Nothing)
+            → (tree_by seed x r item ws items b ≡ None → (n : ℕ) → n < length items → get_or ws n 0 ≡ 0)
+            × (((n : ℕ) → n < length items → get_or ws n 0 ≡ 0) → tree_by seed x r item ws items b ≡ None)
         go true e = (λ q n h. omega (arith, leaf-le ws n (height_of (length items)), eqb-true total 0 e, ap (node_weight ws (height_of (length items))) (above_root n (length items) h)), λ h. refl)
         go false e = (
           λ q. absurd (let z : ◌≡◌ {A = ℕ} 0 1 = cc in omega arith),
@@ -287,7 +286,7 @@ module _ (seed x r item : ℕ) (vs ws : List ℕ) (c : ℕ) where
 
   -- so two draws that fork end in different children: their ends differ where their paths part
   pub fork_ends : (items : List ℕ) → distinct items ≡ true → length vs ≡ length items → length ws ≡ length items
-      → (tree_of seed x r item vs items ≡ Nothing → ⊥) → (tree_of seed x r item ws items ≡ Nothing → ⊥) → Fork (height_of (length items)) 0
+      → (tree_of seed x r item vs items ≡ None → ⊥) → (tree_of seed x r item ws items ≡ None → ⊥) → Fork (height_of (length items)) 0
       → tree_of seed x r item vs items ≡ tree_of seed x r item ws items → ⊥
   unfolding tree_of tree_by
   fork_ends items u p q f g F = go (eqb (whole vs) 0) refl (eqb (whole ws) 0) refl f g
@@ -301,7 +300,7 @@ module _ (seed x r item : ℕ) (vs ws : List ℕ) (c : ℕ) where
       leaf : List ℕ → ℕ
       leaf us = leaf_from seed x r item us H 0
 
-      D : List ℕ → Bool → Drawn
+      D : List ℕ → Bool → Option ℕ
       D us b = tree_by seed x r item us items b
 
       there : (us : List ℕ) → length us ≡ length items → eqb (whole us) 0 ≡ false → leaf us < length items
@@ -309,7 +308,7 @@ module _ (seed x r item : ℕ) (vs ws : List ℕ) (c : ℕ) where
           let n : whole us ≡ 0 → ⊥ = eqb-false (whole us) 0 e in
           omega (arith, s, leaf-inside us (leaf us) (leaf-above seed x r item us H 0 (omega arith)))
 
-      go : (a : Bool) → eqb (whole vs) 0 ≡ a → (b : Bool) → eqb (whole ws) 0 ≡ b → (D vs a ≡ Nothing → ⊥) → (D ws b ≡ Nothing → ⊥) → D vs a ≡ D ws b → ⊥
+      go : (a : Bool) → eqb (whole vs) 0 ≡ a → (b : Bool) → eqb (whole ws) 0 ≡ b → (D vs a ≡ None → ⊥) → (D ws b ≡ None → ⊥) → D vs a ≡ D ws b → ⊥
       go true e b h f g s = f refl
       go false e true h f g s = g refl
       go false e false h f g s =

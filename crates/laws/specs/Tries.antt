@@ -1,13 +1,11 @@
 -- Document 02, change 1: how many tries a rank makes. An inner walk makes at most 50 and a rank at most 2,550. Assumes nothing.
-use Rattle.std.specs.Prelude.{◌≡◌, Bool, cond, List, ◌⊎◌, eqb}
+use Rattle.std.specs.Prelude.{◌≡◌, Bool, cond, List, ◌⊎◌, eqb, Option, None, Some}
 use Rattle.std.proofs.Math.Path.{refl}
 use Rattle.std.proofs.Math.Bool.{true, false}
 use Rattle.std.proofs.Common.{inl, inr}
 use Prim.Native.Nat.{ℕ, zero, suc, ◌+◌, ◌*◌, ◌<◌, ◌≤◌}
 use native.Mathlib.Omega.{arith}
 use Rattle.std.proofs.lemmas.Bool.{eqb-false}
-use Rattle.definitions.specs.declared.Drawn.{Drawn}
-use Rattle.definitions.specs.declared.Drawn.TheVariants.{Winner, Nothing}
 use Rattle.definitions.specs.declared.Mode.{Mode}
 use Rattle.definitions.specs.declared.Mode.TheVariants.{FirstN, Independent, Through}
 use Rattle.definitions.specs.declared.Ranked.{Ranked}
@@ -36,10 +34,10 @@ module _ (v : View) (x : ℕ) (mode : Mode) (n t : ℕ) (test : ℕ → ℕ → 
   verdict-adds s b i e k Rejected h = omega arith
   verdict-adds s b i e k Passed h = h
 
-  landed-adds : (s : State) (q b : ℕ) (es : List Event) (d : Drawn) → Adds c s (on_landed v x mode n t test start r s q b es d).turn
+  landed-adds : (s : State) (q b : ℕ) (es : List Event) (d : Option ℕ) → Adds c s (on_landed v x mode n t test start r s q b es d).turn
   unfolding on_landed on_type tested untested on_tried failed_to
-  landed-adds s q b es Nothing = omega arith
-  landed-adds s q b es (Winner i) = go (eqb (v.type i) t)
+  landed-adds s q b es None = omega arith
+  landed-adds s q b es (Some i) = go (eqb (v.type i) t)
     where
       go : (u : Bool) → Adds c s (on_type v x mode n t test start r s q b es i u).turn
       go true = let w = (test q i).tried in verdict-adds s b i w.entry w.inner w.verdict (short q i)

@@ -1,8 +1,7 @@
 -- Document 01, "Walk, select and rule": what a draw leads to in a descent, and what a turn leads to in a rank. Assumes nothing.
-use Rattle.std.specs.Prelude.{◌≡◌, ℕ, suc, ◌-◌, ◌<◌, ◌≤◌}
+use Rattle.std.specs.Prelude.{◌≡◌, ℕ, suc, ◌-◌, ◌<◌, ◌≤◌, None, Some}
 use Rattle.std.proofs.Common.{ap, sym, ◌∙◌, arith}
 use borrow.Author.Tests.{lt-ltb, le-ltb, eq-eqb, ne_eqb}
-use Rattle.definitions.specs.declared.Drawn.TheVariants.{Winner, Nothing}
 use Rattle.definitions.specs.declared.Mode.{Mode}
 use Rattle.definitions.specs.declared.Landed.{Landed}
 use Rattle.definitions.specs.declared.State.{State}
@@ -18,17 +17,17 @@ use Rattle.laws.specs.Fuel.{Sinks, is-bucket, descend-enough, turn-fails}
 -- ---- descent: what a draw leads to
 
 module _ (v : View) (x t r b : ℕ) where
-  pub none_here : draw_at v x r b ≡ Nothing → (k : ℕ) → descend_in v x t r (suc k) b ≡ landing r b Nothing
+  pub none_here : draw_at v x r b ≡ None → (k : ℕ) → descend_in v x t r (suc k) b ≡ landing r b None
   unfolding descend_in on_drawn
   none_here e k = simp e
 
-  pub stop-here : (i : ℕ) → draw_at v x r b ≡ Winner i → v.type i ≤ t → (k : ℕ)
-      → descend_in v x t r (suc k) b ≡ landing r b (Winner i)
+  pub stop-here : (i : ℕ) → draw_at v x r b ≡ Some i → v.type i ≤ t → (k : ℕ)
+      → descend_in v x t r (suc k) b ≡ landing r b (Some i)
   unfolding descend_in on_drawn on_winner
   stop-here i e l k = simp (e, le-ltb _ _ l)
 
-  pub down-here : (i : ℕ) → draw_at v x r b ≡ Winner i → t < v.type i → (k : ℕ)
-      → descend_in v x t r (suc k) b ≡ deeper r b (Winner i) (descend_in v x t r k (bucket_number i))
+  pub down-here : (i : ℕ) → draw_at v x r b ≡ Some i → t < v.type i → (k : ℕ)
+      → descend_in v x t r (suc k) b ≡ deeper r b (Some i) (descend_in v x t r k (bucket_number i))
   unfolding descend_in on_drawn on_winner
   down-here i e l k = simp (e, lt-ltb _ _ l)
 
@@ -37,19 +36,19 @@ module _ (v : View) (x t r b : ℕ) where
     enough : descend v x t r b ≡ descend_in v x t r (suc (v.type (bucket_item b))) b
     enough = sym (descend-enough v sinks x t r (suc (v.type (bucket_item b))) b (omega arith))
 
-    pub descend-none : draw_at v x r b ≡ Nothing → descend v x t r b ≡ landing r b Nothing
+    pub descend-none : draw_at v x r b ≡ None → descend v x t r b ≡ landing r b None
     descend-none e = enough ∙ none_here e (v.type (bucket_item b))
 
-    pub descend-stop : (i : ℕ) → draw_at v x r b ≡ Winner i → v.type i ≤ t → descend v x t r b ≡ landing r b (Winner i)
+    pub descend-stop : (i : ℕ) → draw_at v x r b ≡ Some i → v.type i ≤ t → descend v x t r b ≡ landing r b (Some i)
     descend-stop i e l = enough ∙ stop-here i e l (v.type (bucket_item b))
 
-    pub descend-down : (i : ℕ) → draw_at v x r b ≡ Winner i → t < v.type i
-        → descend v x t r b ≡ deeper r b (Winner i) (descend v x t r (bucket_number i))
+    pub descend-down : (i : ℕ) → draw_at v x r b ≡ Some i → t < v.type i
+        → descend v x t r b ≡ deeper r b (Some i) (descend v x t r (bucket_number i))
     descend-down i e l =
         let below = sinks.drawn x r b i e in
         let at = is-bucket v sinks x t r i l in
         enough ∙ down-here i e l (v.type (bucket_item b))
-        ∙ ap (deeper r b (Winner i)) (descend-enough v sinks x t r (v.type (bucket_item b)) (bucket_number i) (rw at (omega arith)))
+        ∙ ap (deeper r b (Some i)) (descend-enough v sinks x t r (v.type (bucket_item b)) (bucket_number i) (rw at (omega arith)))
 
 -- ---- rank: what a descent leads to in a turn, and a turn in a rank
 
@@ -57,11 +56,11 @@ module _ (v : View) (x : ℕ) (mode : Mode) (n t : ℕ) (test : ℕ → ℕ → 
   -- l is where the turn's descent comes to, with the try number q
   module _ (s : State) (q : ℕ) (try : q ≡ try_number mode n r s) (l : Landed) (e : l ≡ (descend v x t q s.at).landed) where
     -- a draw of none is a failure
-    pub turn-none : l.drawn ≡ Nothing → (s' : State) → s' ≡ failed_to start 0 s → Fail s' ≡ (turn_of v x mode n t test start r s).turn
+    pub turn-none : l.drawn ≡ None → (s' : State) → s' ≡ failed_to start 0 s → Fail s' ≡ (turn_of v x mode n t test start r s).turn
     unfolding turn_of on_descent on_landed untested
     turn-none d s' g = simp (← try, ← e, d, g)
 
-    module _ (i : ℕ) (d : l.drawn ≡ Winner i) where
+    module _ (i : ℕ) (d : l.drawn ≡ Some i) where
       -- an item of another type is a failure
       pub turn-other : (v.type i ≡ t → ⊥) → (s' : State) → s' ≡ failed_to start 0 s → Fail s' ≡ (turn_of v x mode n t test start r s).turn
       unfolding turn_of on_descent on_landed on_type untested

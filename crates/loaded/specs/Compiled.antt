@@ -12,7 +12,7 @@ use Rattle.definitions.specs.Rule.{width_of}
 use Rattle.laws.specs.Loadable.{Loadable}
 use Rattle.laws.specs.Forest as forest
 use Rattle.hierarchy.specs.declared.Rule.{Rule}
-use Rattle.hierarchy.specs.Arrays.{types_in, bucket_type_in, view_in, Sound, Flagged, actions_in}
+use Rattle.hierarchy.specs.Arrays.{types_in, bucket_type_in, view_in, Flagged, actions_in}
 use Rattle.descent.specs.Descent as descent
 use Rattle.blocks.specs.Standing.{TypesOf}
 use Rattle.blocks.specs.Products.{emitted_to}
@@ -22,20 +22,18 @@ use Rattle.placement.specs.Loaded.{ready, width_is}
 -- they are map m
 pub record Compiled (m : Map) (plan values : List ℕ) (rule : Rule) : Type 0 where
   pub view : view_in plan values ≡ view_of m
-  pub sound : Sound plan
   pub flagged : Flagged plan values
   pub actions : actions_in rule ≡ actions_of m
   pub len : rule.len ≡ length (actions_in rule)
   pub few : rule.len ≤ 16
 
 -- from what `compile` ensures: the rule is read from map m, whose rule is that of m'
-pub compiled-from : (m m' : Map) (plan values : List ℕ) (rule : Rule) → actions_of m ≡ actions_of m' → view_in plan values ≡ view_of m' → Sound plan → Flagged plan values
+pub compiled-from : (m m' : Map) (plan values : List ℕ) (rule : Rule) → actions_of m ≡ actions_of m' → view_in plan values ≡ view_of m' → Flagged plan values
     → (actions_in rule ≡ actions_of m) × (rule.len ≡ length m.steps) × (rule.len ≤ 16) → Compiled m' plan values rule
 unfolding actions_of
-compiled-from m m' plan values rule e v s f r =
+compiled-from m m' plan values rule e v f r =
     record {
       view = v;
-      sound = s;
       flagged = f;
       actions = r.0 ∙ e;
       len = r.1 ∙ sym (ap (λ (l : List Action). length l) r.0 ∙ length-map m.steps action_of);
@@ -51,7 +49,7 @@ module _ (m : Map) (plan values : List ℕ) (rule : Rule) (L : Loadable m) (C : 
       ∙ ap (λ (v : View). v.type (bucket_item b)) C.view ∙ forest.type-bucket m b
 
   compiled-ready : Ready plan values (actions_in rule)
-  compiled-ready = subst (Ready plan values) (sym C.actions) (ready m L plan values C.sound types_of C.view C.flagged)
+  compiled-ready = subst (Ready plan values) (sym C.actions) (ready m L plan values types_of C.view C.flagged)
 
   pub compiled-width : emitted_to (actions_in rule) rule.len ≡ width_of m
   compiled-width =

@@ -5,12 +5,13 @@ ghost use Rattle.definitions.specs.Load.{load_number};
 ghost use Rattle.definitions.specs.Writing.{day_group};
 
 use frames::records;
+use text::Text;
 
 // The group of a show's day by a map that loads: one of the map's groups.
-pub fn group_of(map: &[u8], show: u32, day: u32) -> u32
-    requires { load_number map.now ≡ 0 }
-    ensures { (result ≡ day_group (map_of map.now) show day) × (result < (map_of map.now).groups) }
+pub fn group_of(text: &Text, show: u32, day: u32) -> u32
+    requires { load_number text.now ≡ 0 }
+    ensures { (result ≡ day_group (map_of text.now) show day) × (result < (map_of text.now).groups) }
 {
-    let g = records::groups(map);
+    let g = records::groups(text.bytes);
     jenkins::hash2(jenkins::SEED, show, day) % g
 }

@@ -1,7 +1,9 @@
 -- Two walks of one place, made at once: v is what the old run reads of its map and v' what the new run reads, and the types are the same.
--- What is kept of the two is a `Meeting` of two descents, a `Round` of two turns and no list of events; the laws say what each says of the
--- events, and that a rank made so ends where the two ranks part, or in what both end in. Assumes nothing.
-use Rattle.std.specs.Prelude.{◌≡◌, Bool, cond, ◌||◌, ltb, eqb}
+-- What is kept of two descents, tests, turns or ranks is where they part, or what both come to, and no list of events; the laws say what each
+-- says of the events, and that a rank made so ends where the two ranks part, or in what both end in. Assumes nothing.
+use Rattle.definitions.specs.declared.Ranked.{Ranked}
+use Rattle.definitions.specs.declared.Tried.{Tried}
+use Rattle.std.specs.Prelude.{◌≡◌, Bool, cond, ◌||◌, ltb, eqb, Option, None, Some, Result, Ok, Err, MatchResult}
 use Rattle.std.proofs.Math.Path.{refl, sym, ap, subst}
 use Rattle.std.proofs.Common.{◌∙◌}
 use Rattle.std.proofs.Math.Bool.{true, false}
@@ -10,8 +12,6 @@ use mathlib.Core.List.{List, [], ◌∷◌, ◌++◌, append-nil}
 use Prim.Native.Nat.{ℕ, suc, ◌+◌, ◌-◌, ◌<◌, ◌≤◌}
 use native.Mathlib.Omega.{arith}
 use borrow.Author.Tests.{eq-eqb, ne_eqb}
-use Rattle.definitions.specs.declared.Drawn.{Drawn}
-use Rattle.definitions.specs.declared.Drawn.TheVariants.{Winner, Nothing}
 use Rattle.definitions.specs.declared.Mode.TheVariants.{FirstN, Independent, Through}
 use Rattle.definitions.specs.declared.Verdict.{Verdict}
 use Rattle.definitions.specs.declared.Verdict.TheVariants.{Held, Passed}
@@ -70,41 +70,35 @@ use Rattle.laws.specs.Fuel.{Sinks, descend-enough, turn-fails}
 use Rattle.laws.specs.Walk.{descend-none, descend-stop, descend-down}
 use Rattle.walk.specs.declared.Search.{Search}
 use Rattle.walk.specs.Searches.{inner_search, try_at, test_at, turn_at, rank_at}
-use Rattle.lockstep.specs.declared.Meeting.{Meeting}
-use Rattle.lockstep.specs.declared.Meeting.TheVariants.{Apart, Together}
-use Rattle.lockstep.specs.declared.Trials.{Trials}
-use Rattle.lockstep.specs.declared.Trials.TheVariants.{Split, Agreed}
-use Rattle.lockstep.specs.declared.Course.{Course}
-use Rattle.lockstep.specs.declared.Course.TheVariants.{Forked, Shared}
-use Rattle.lockstep.specs.declared.Round.{Round}
-use Rattle.lockstep.specs.declared.Round.TheVariants.{Left, Joined}
 use Rattle.lockstep.specs.Parts.{PartsTo, verdict-eq, parts-after, parts-before, draws-part, tests-part}
+
+-- m is what a and b, of the two runs, come to: they are one, and end in m's `Ok`, or their events part at its `Err`
+abbrev pub Says : {A L : Type 0} → (A → List Event) → (A → L) → Result L Parting → A → A → Type 0
+Says events end m a b = MatchResult m (λ l. (a ≡ b) × (end a ≡ l)) (λ p. PartsTo (events a) (events b) p)
 
 -- ---- two descents
 
--- what a meeting says of two descents
-abbrev pub Descents : Meeting → Descent → Descent → Type 0
-Descents (Apart p) c d = PartsTo c.events d.events p
-Descents (Together l) c d = (c ≡ d) × (c.landed ≡ l)
+abbrev pub Descents : Result Landed Parting → Descent → Descent → Type 0
+Descents = Says (λ c. c.events) (λ c. c.landed)
 
 -- two descents behind one draw
-pub deeper-both : (r b : ℕ) (d : Drawn) (m : Meeting) (c c' : Descent) → Descents m c c' → Descents m (deeper r b d c) (deeper r b d c')
+pub deeper-both : (r b : ℕ) (d : Option ℕ) (m : Result Landed Parting) (c c' : Descent) → Descents m c c' → Descents m (deeper r b d c) (deeper r b d c')
 unfolding deeper
-deeper-both r b d (Apart p) c c' k = parts-after (Drew b r d ∷ []) k
-deeper-both r b d (Together y) c c' (q, z) = (ap (deeper r b d) q, z)
+deeper-both r b d (Err p) c c' k = parts-after (Drew b r d ∷ []) k
+deeper-both r b d (Ok y) c c' (q, z) = (ap (deeper r b d) q, z)
 
 module _ (v : View) (x t r b : ℕ) where
   -- the first event of a descent is its first draw
-  pub drawn-begins : (go : ℕ → Descent) (d : Drawn) → (es : List Event) × ((on_drawn v x t r go b d).events ≡ Drew b r d ∷ es)
+  pub drawn-begins : (go : ℕ → Descent) (d : Option ℕ) → (es : List Event) × ((on_drawn v x t r go b d).events ≡ Drew b r d ∷ es)
   unfolding on_drawn on_winner landing deeper
-  drawn-begins go Nothing = ([], refl)
-  drawn-begins go (Winner i) = by (ltb t (v.type i))
+  drawn-begins go None = ([], refl)
+  drawn-begins go (Some i) = by (ltb t (v.type i))
     where
-      by : (u : Bool) → (es : List Event) × ((on_winner go r b i u).events ≡ Drew b r (Winner i) ∷ es)
+      by : (u : Bool) → (es : List Event) × ((on_winner go r b i u).events ≡ Drew b r (Some i) ∷ es)
       by true = ((go (bucket_number i)).events, refl)
       by false = ([], refl)
 
-  begins : Sinks v → (d : Drawn) → draw_at v x r b ≡ d → (es : List Event) × ((descend v x t r b).events ≡ Drew b r d ∷ es)
+  begins : Sinks v → (d : Option ℕ) → draw_at v x r b ≡ d → (es : List Event) × ((descend v x t r b).events ≡ Drew b r d ∷ es)
   unfolding descend_in
   begins sinks d e =
       let k = v.type (bucket_item b) in
@@ -112,66 +106,63 @@ module _ (v : View) (x t r b : ℕ) where
 
 module _ (v v' : View) (types : (i : ℕ) → v.type i ≡ v'.type i) (sinks : Sinks v) (sinks' : Sinks v') (x t r b : ℕ) where
   -- the draws differ
-  pub meet-apart : (d d' : Drawn) → draw_at v x r b ≡ d → draw_at v' x r b ≡ d' → same_drawn d d' ≡ false
-      → Descents (Apart (Draw d d')) (descend v x t r b) (descend v' x t r b)
+  pub meet-apart : (d d' : Option ℕ) → draw_at v x r b ≡ d → draw_at v' x r b ≡ d' → same_drawn d d' ≡ false
+      → Descents (Err (Draw d d')) (descend v x t r b) (descend v' x t r b)
   meet-apart d d' e e' h =
       let (es, q) = begins v x t r b sinks d e in
       let (fs, q') = begins v' x t r b sinks' d' e' in
       rw (q, q') (draws-part b r d d' es fs h)
 
   -- both find none
-  pub meet-none : draw_at v x r b ≡ Nothing → draw_at v' x r b ≡ Nothing
-      → Descents (Together (record { bucket = b; drawn = Nothing })) (descend v x t r b) (descend v' x t r b)
+  pub meet-none : draw_at v x r b ≡ None → draw_at v' x r b ≡ None
+      → Descents (Ok (record { bucket = b; drawn = None })) (descend v x t r b) (descend v' x t r b)
   unfolding landing
   meet-none e e' =
       let q = descend-none v x t r b sinks e in
       (q ∙ sym (descend-none v' x t r b sinks' e'), ap (λ (c : Descent). c.landed) q)
 
   -- both come to an item of type t or below
-  pub meet-stop : (i : ℕ) → draw_at v x r b ≡ Winner i → draw_at v' x r b ≡ Winner i → v.type i ≤ t
-      → Descents (Together (record { bucket = b; drawn = Winner i })) (descend v x t r b) (descend v' x t r b)
+  pub meet-stop : (i : ℕ) → draw_at v x r b ≡ Some i → draw_at v' x r b ≡ Some i → v.type i ≤ t
+      → Descents (Ok (record { bucket = b; drawn = Some i })) (descend v x t r b) (descend v' x t r b)
   unfolding landing
   meet-stop i e e' l =
       let q = descend-stop v x t r b sinks i e l in
       (q ∙ sym (descend-stop v' x t r b sinks' i e' (rw (← types i) l)), ap (λ (c : Descent). c.landed) q)
 
   -- both go down to one bucket
-  pub meet-down : (i : ℕ) (m : Meeting) → draw_at v x r b ≡ Winner i → draw_at v' x r b ≡ Winner i → t < v.type i
+  pub meet-down : (i : ℕ) (m : Result Landed Parting) → draw_at v x r b ≡ Some i → draw_at v' x r b ≡ Some i → t < v.type i
       → Descents m (descend v x t r (bucket_number i)) (descend v' x t r (bucket_number i))
       → Descents m (descend v x t r b) (descend v' x t r b)
   meet-down i m e e' l rest =
-      rw (descend-down v x t r b sinks i e l, descend-down v' x t r b sinks' i e' (rw (← types i) l)) (deeper-both r b (Winner i) m _ _ rest)
+      rw (descend-down v x t r b sinks i e l, descend-down v' x t r b sinks' i e' (rw (← types i) l)) (deeper-both r b (Some i) m _ _ rest)
 
 -- ---- two tests
 
--- what two trials say of two tests
-abbrev pub Tests : Trials → Trial → Trial → Type 0
-Tests (Split p) a b = PartsTo a.events b.events p
-Tests (Agreed w) a b = (a ≡ b) × (a.tried ≡ w)
+abbrev pub Tests : Result Tried Parting → Trial → Trial → Type 0
+Tests = Says (λ c. c.events) (λ c. c.tried)
 
--- what a course says of two ranks
-abbrev pub Ranks : Course → RankEvents → RankEvents → Type 0
-Ranks (Forked p) a b = PartsTo a.events b.events p
-Ranks (Shared r) a b = (a ≡ b) × (a.ranked ≡ r)
+-- two ranks
+abbrev pub Ranks : Result Ranked Parting → RankEvents → RankEvents → Type 0
+Ranks = Says (λ c. c.events) (λ c. c.ranked)
 
 -- two tests of item i that are their verdicts
-abbrev pub plain_both : ℕ → Verdict → Verdict → Trials
-plain_both i w w' = cond (same_verdict w w') (Agreed (plain i w).tried) (Split (Test w w'))
+abbrev pub plain_both : ℕ → Verdict → Verdict → Result Tried Parting
+plain_both i w w' = cond (same_verdict w w') (Ok (plain i w).tried) (Err (Test w w'))
 
 -- the end of the held test
 abbrev pub held_end : Bool → Verdict
 held_end h = cond h Held Passed
 
 -- two inner walks
-abbrev pub on_course : Course → Trials
-on_course (Forked p) = Split p
-on_course (Shared r) = Agreed (found r)
+abbrev pub on_course : Result Ranked Parting → Result Tried Parting
+on_course (Err p) = Err p
+on_course (Ok r) = Ok (found r)
 
 plain-both : (i : ℕ) (w w' : Verdict) → Tests (plain_both i w w') (plain i w) (plain i w')
 unfolding plain
 plain-both i w w' = go (same_verdict w w') refl
   where
-    go : (u : Bool) → same_verdict w w' ≡ u → Tests (cond u (Agreed (plain i w).tried) (Split (Test w w'))) (plain i w) (plain i w')
+    go : (u : Bool) → same_verdict w w' ≡ u → Tests (cond u (Ok (plain i w).tried) (Err (Test w w'))) (plain i w) (plain i w')
     go true o = rw (← verdict-eq w w' o) (refl, refl)
     go false o = tests-part i w w' [] [] o
 
@@ -205,16 +196,16 @@ module _ (v v' : View) (x : ℕ) (k : Search) (olds news : List ℕ) (q i : ℕ)
         go false false o = absurd (false≢true o)
 
     -- it is held in none, and the inner walks are ranks
-    pub tests-sought : has i olds || has i news ≡ false → (c : Course)
+    pub tests-sought : has i olds || has i news ≡ false → (c : Result Ranked Parting)
         → Ranks c (rank_at v x (inner_search k.wanted.n q i) olds 0) (rank_at v' x (inner_search k.wanted.n q i) news 0) → Tests (on_course c) T T'
     unfolding test_of through_test through_by inner_walk sought plain_test rank_of
     tests-sought h c r = rw e (go (has i olds) (has i news) h)
       where
-        inner : (d : Course)
+        inner : (d : Result Ranked Parting)
             → Ranks d (rank_at v x (inner_search k.wanted.n q i) olds 0) (rank_at v' x (inner_search k.wanted.n q i) news 0)
             → Tests (on_course d) (sought i (inner_walk v x k.wanted.n olds q i)) (sought i (inner_walk v' x k.wanted.n news q i))
-        inner (Forked p) o = parts-after (Tested i Passed ∷ []) o
-        inner (Shared s) (o, z) = (ap (sought i) o, ap found z)
+        inner (Err p) o = parts-after (Tested i Passed ∷ []) o
+        inner (Ok s) (o, z) = (ap (sought i) o, ap found z)
 
         go : (y z : Bool) → y || z ≡ false
             → Tests (on_course c) (through_by v x k.wanted.n olds q i y) (through_by v' x k.wanted.n news q i z)
@@ -224,24 +215,22 @@ module _ (v v' : View) (x : ℕ) (k : Search) (olds news : List ℕ) (q i : ℕ)
 
 -- ---- two turns
 
--- what a round says of two turns
-abbrev pub Turns : Round → TurnEvents → TurnEvents → Type 0
-Turns (Left p) a b = PartsTo a.events b.events p
-Turns (Joined u) a b = (a ≡ b) × (a.turn ≡ u)
+abbrev pub Turns : Result Turn Parting → TurnEvents → TurnEvents → Type 0
+Turns = Says (λ c. c.events) (λ c. c.turn)
 
 module _ (v : View) (x : ℕ) (k : Search) (held : List ℕ) where
   -- the turn, from where its descent comes to; and the rank from a state on
-  abbrev pub landed_at : State → ℕ → List Event → Drawn → TurnEvents
+  abbrev pub landed_at : State → ℕ → List Event → Option ℕ → TurnEvents
   landed_at s = on_landed v x k.wanted.mode k.wanted.n k.wanted.t (test_at v x k held) k.start k.r s (try_at k s)
 
   abbrev pub from_at : ℕ → State → RankEvents
   from_at = rank_from v x k.wanted.mode k.wanted.n k.wanted.t (test_at v x k held) k.start k.r
 
   -- the events of a turn begin with those of its descent
-  landed-begins : (s : State) (b : ℕ) (es : List Event) (d : Drawn) → (fs : List Event) × ((landed_at s b es d).events ≡ es ++ fs)
+  landed-begins : (s : State) (b : ℕ) (es : List Event) (d : Option ℕ) → (fs : List Event) × ((landed_at s b es d).events ≡ es ++ fs)
   unfolding on_landed on_type tested untested
-  landed-begins s b es Nothing = ([], sym (append-nil es))
-  landed-begins s b es (Winner i) = go (eqb (v.type i) k.wanted.t)
+  landed-begins s b es None = ([], sym (append-nil es))
+  landed-begins s b es (Some i) = go (eqb (v.type i) k.wanted.t)
     where
       go : (u : Bool) → (fs : List Event)
           × ((on_type v x k.wanted.mode k.wanted.n k.wanted.t (test_at v x k held) k.start k.r s (try_at k s) b es i u).events ≡ es ++ fs)
@@ -249,9 +238,9 @@ module _ (v : View) (x : ℕ) (k : Search) (held : List ℕ) where
       go false = ([], sym (append-nil es))
 
 -- what two tests of item i, drawn from bucket b, make of a turn
-abbrev pub on_trials : ℕ → State → ℕ → ℕ → Trials → Round
-on_trials start s b i (Split p) = Left p
-on_trials start s b i (Agreed w) = Joined (on_tried start s b i w)
+abbrev pub on_trials : ℕ → State → ℕ → ℕ → Result Tried Parting → Result Turn Parting
+on_trials start s b i (Err p) = Err p
+on_trials start s b i (Ok w) = Ok (on_tried start s b i w)
 
 module _ (v v' : View) (x : ℕ) (k : Search) (olds news : List ℕ) (s : State) where
   -- the two runs: the descent of a turn, the turn, and what it makes of where its descent comes to
@@ -267,14 +256,14 @@ module _ (v v' : View) (x : ℕ) (k : Search) (olds news : List ℕ) (s : State)
   abbrev U' : TurnEvents
   U' = turn_at v' x k news s
 
-  abbrev on : ℕ → List Event → Drawn → TurnEvents
+  abbrev on : ℕ → List Event → Option ℕ → TurnEvents
   on = landed_at v x k olds s
 
-  abbrev on' : ℕ → List Event → Drawn → TurnEvents
+  abbrev on' : ℕ → List Event → Option ℕ → TurnEvents
   on' = landed_at v' x k news s
 
   -- the descents part
-  pub round-apart : (p : Parting) → Descents (Apart p) D D' → Turns (Left p) U U'
+  pub round-apart : (p : Parting) → Descents (Err p) D D' → Turns (Err p) U U'
   unfolding turn_of on_descent
   round-apart p h =
       let (xs, q) = landed-begins v x k olds s D.landed.bucket D.events D.landed.drawn in
@@ -282,7 +271,7 @@ module _ (v v' : View) (x : ℕ) (k : Search) (olds news : List ℕ) (s : State)
       rw (q, q') (parts-before xs ys h)
 
   -- the descents land together, and behind one list of events the turns are as m says
-  pub round-landed : (l : Landed) (m : Round) → Descents (Together l) D D'
+  pub round-landed : (l : Landed) (m : Result Turn Parting) → Descents (Ok l) D D'
       → ((es : List Event) → Turns m (on l.bucket es l.drawn) (on' l.bucket es l.drawn)) → Turns m U U'
   unfolding turn_of on_descent
   round-landed l m (q, z) h =
@@ -291,26 +280,26 @@ module _ (v v' : View) (x : ℕ) (k : Search) (olds news : List ℕ) (s : State)
 
   module _ (b : ℕ) (es : List Event) where
     -- "a draw that finds none"
-    pub land-none : Turns (Joined (Fail (failed_to k.start 0 s))) (on b es Nothing) (on' b es Nothing)
+    pub land-none : Turns (Ok (Fail (failed_to k.start 0 s))) (on b es None) (on' b es None)
     unfolding on_landed untested
     land-none = (refl, refl)
 
     module _ (types : (i : ℕ) → v.type i ≡ v'.type i) (i : ℕ) where
       -- "a type below t"
-      pub land-other : (v.type i ≡ k.wanted.t → ⊥) → Turns (Joined (Fail (failed_to k.start 0 s))) (on b es (Winner i)) (on' b es (Winner i))
+      pub land-other : (v.type i ≡ k.wanted.t → ⊥) → Turns (Ok (Fail (failed_to k.start 0 s))) (on b es (Some i)) (on' b es (Some i))
       unfolding on_landed on_type untested
       land-other h = rw (← types i, ne_eqb (v.type i) k.wanted.t h) (refl, refl)
 
       -- "If the type is t, the item is tested"
-      pub land-tested : v.type i ≡ k.wanted.t → (m : Trials) → Tests m (test_at v x k olds (try_at k s) i) (test_at v' x k news (try_at k s) i)
-          → Turns (on_trials k.start s b i m) (on b es (Winner i)) (on' b es (Winner i))
+      pub land-tested : v.type i ≡ k.wanted.t → (m : Result Tried Parting) → Tests m (test_at v x k olds (try_at k s) i) (test_at v' x k news (try_at k s) i)
+          → Turns (on_trials k.start s b i m) (on b es (Some i)) (on' b es (Some i))
       unfolding on_landed on_type tested
       land-tested h m g = rw (← types i, eq-eqb (v.type i) k.wanted.t h) (go m g)
         where
-          go : (u : Trials) → Tests u (test_at v x k olds (try_at k s) i) (test_at v' x k news (try_at k s) i)
+          go : (u : Result Tried Parting) → Tests u (test_at v x k olds (try_at k s) i) (test_at v' x k news (try_at k s) i)
               → Turns (on_trials k.start s b i u) (tested k.start s b es i (test_at v x k olds (try_at k s) i)) (tested k.start s b es i (test_at v' x k news (try_at k s) i))
-          go (Split p) o = parts-after es o
-          go (Agreed w) (o, z) = (ap (tested k.start s b es i) o, ap (on_tried k.start s b i) z)
+          go (Err p) o = parts-after es o
+          go (Ok w) (o, z) = (ap (tested k.start s b es i) o, ap (on_tried k.start s b i) z)
 
 -- ---- two ranks
 
@@ -321,15 +310,15 @@ turn-begins go s es (Fill i e k) = ([], sym (append-nil es))
 turn-begins go s es (Fail z) = ((go z).events, refl)
 
 -- two ranks behind one list of events
-onward-both : (es : List Event) (c : Course) (a b : RankEvents) → Ranks c a b → Ranks c (onward es a) (onward es b)
+onward-both : (es : List Event) (c : Result Ranked Parting) (a b : RankEvents) → Ranks c a b → Ranks c (onward es a) (onward es b)
 unfolding onward
-onward-both es (Forked p) a b h = parts-after es h
-onward-both es (Shared r) a b (q, z) = (ap (onward es) q, z)
+onward-both es (Err p) a b h = parts-after es h
+onward-both es (Ok r) a b (q, z) = (ap (onward es) q, z)
 
 module _ (v v' : View) (x : ℕ) (k : Search) (olds news : List ℕ) where
   -- what holds of what is left of two ranks, from s on and with m failures left, holds of the ranks a and b
   abbrev pub Leads : RankEvents → RankEvents → ℕ → State → Type 0
-  Leads a b m s = (c : Course) → Ranks c (from_at v x k olds m s) (from_at v' x k news m s) → Ranks c a b
+  Leads a b m s = (c : Result Ranked Parting) → Ranks c (from_at v x k olds m s) (from_at v' x k news m s) → Ranks c a b
 
   module _ (a b : RankEvents) (s : State) (lt : s.fr < 50) (from : Leads a b (50 - s.fr) s) where
     -- one turn of those left
@@ -337,7 +326,7 @@ module _ (v v' : View) (x : ℕ) (k : Search) (olds news : List ℕ) where
     one = let e : suc (50 - (s.fr + 1)) ≡ 50 - s.fr = omega arith in rw e from
 
     -- the turns part: so do the ranks, and there
-    pub rank-parts : (p : Parting) → Turns (Left p) (turn_at v x k olds s) (turn_at v' x k news s) → Ranks (Forked p) a b
+    pub rank-parts : (p : Parting) → Turns (Err p) (turn_at v x k olds s) (turn_at v' x k news s) → Ranks (Err p) a b
     unfolding rank_from on_turn
     rank-parts p h =
         let m : ℕ = 50 - (s.fr + 1) in
@@ -345,15 +334,15 @@ module _ (v v' : View) (x : ℕ) (k : Search) (olds news : List ℕ) where
         let d = turn_at v' x k news s in
         let (xs, q) = turn-begins (from_at v x k olds m) s c.events c.turn in
         let (ys, q') = turn-begins (from_at v' x k news m) s d.events d.turn in
-        one (Forked p) (rw (q, q') (parts-before xs ys h))
+        one (Err p) (rw (q, q') (parts-before xs ys h))
 
     -- both places are filled
-    pub rank-filled : (i e j : ℕ) → Turns (Joined (Fill i e j)) (turn_at v x k olds s) (turn_at v' x k news s) → Ranks (Shared (rank_end i e j s)) a b
+    pub rank-filled : (i e j : ℕ) → Turns (Ok (Fill i e j)) (turn_at v x k olds s) (turn_at v' x k news s) → Ranks (Ok (rank_end i e j s)) a b
     unfolding rank_from on_turn after_turn
-    rank-filled i e j (q, z) = one (Shared (rank_end i e j s)) (rw (← q, z) (refl, refl))
+    rank-filled i e j (q, z) = one (Ok (rank_end i e j s)) (rw (← q, z) (refl, refl))
 
     -- both go on after a failure
-    pub rank-next : (s' : State) → Turns (Joined (Fail s')) (turn_at v x k olds s) (turn_at v' x k news s) → Leads a b (50 - s'.fr) s'
+    pub rank-next : (s' : State) → Turns (Ok (Fail s')) (turn_at v x k olds s) (turn_at v' x k news s) → Leads a b (50 - s'.fr) s'
     unfolding rank_from on_turn after_turn
     rank-next s' (q, z) c h =
         let one_more = turn-fails v x k.wanted.mode k.wanted.n k.wanted.t (test_at v x k olds) k.start k.r s s' z in
@@ -361,9 +350,9 @@ module _ (v v' : View) (x : ℕ) (k : Search) (olds news : List ℕ) where
         one c (rw (← q, z) (onward-both (turn_at v x k olds s).events c _ _ (rw e at h)))
 
   -- at fifty failures both end
-  pub rank-ended : (a b : RankEvents) (s : State) → 50 ≤ s.fr → Leads a b (50 - s.fr) s → Ranks (Shared (rank_end hole hole 0 s)) a b
+  pub rank-ended : (a b : RankEvents) (s : State) → 50 ≤ s.fr → Leads a b (50 - s.fr) s → Ranks (Ok (rank_end hole hole 0 s)) a b
   unfolding rank_from
-  rank-ended a b s g from = let e : 50 - s.fr ≡ 0 = omega arith in from (Shared (rank_end hole hole 0 s)) (rw e (refl, refl))
+  rank-ended a b s g from = let e : 50 - s.fr ≡ 0 = omega arith in from (Ok (rank_end hole hole 0 s)) (rw e (refl, refl))
 
   -- the whole rank
   pub rank-whole : (f₀ : ℕ) → Leads (rank_at v x k olds f₀) (rank_at v' x k news f₀) 50 (record { at = k.start; fr = 0; f = f₀; inner = 0 })

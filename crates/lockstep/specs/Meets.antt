@@ -1,8 +1,6 @@
--- What a meeting says of two descents in one plan with two lists of values: the steps that the descent of both takes. Assumes nothing.
-use Rattle.std.specs.Prelude.{◌≡◌, refl, false, List, ℕ, ◌<◌, ◌≤◌}
+-- What two descents in one plan come to with two lists of values: the steps that the descent of both takes. Assumes nothing.
+use Rattle.std.specs.Prelude.{◌≡◌, refl, false, List, ℕ, ◌<◌, ◌≤◌, Option, None, Some, Result, Ok, Err, IfOk}
 use Rattle.std.proofs.Common.{subst, arith}
-use Rattle.definitions.specs.declared.Drawn.{Drawn}
-use Rattle.definitions.specs.declared.Drawn.TheVariants.{Winner, Nothing}
 use Rattle.definitions.specs.declared.Landed.{Landed}
 use Rattle.definitions.specs.declared.Parting.{Parting}
 use Rattle.definitions.specs.declared.Parting.TheVariants.{Draw}
@@ -11,47 +9,39 @@ use Rattle.definitions.specs.Walk.{draw_at, descend}
 use Rattle.definitions.specs.Edit.{same_drawn}
 use Rattle.hierarchy.specs.Arrays.{type_in, view_in, ItemRange, Sound}
 use Rattle.descent.specs.Descent.{LandedBounds, sound-sinks}
-use Rattle.lockstep.specs.declared.Meeting.{Meeting}
-use Rattle.lockstep.specs.declared.Meeting.TheVariants.{Apart, Together}
 use Rattle.lockstep.specs.Lockstep.{Descents, meet-apart, meet-none, meet-stop, meet-down}
 
--- m is the meeting of the descents from bucket b by the one list of values and by the other
-abbrev pub Meets : List ℕ → List ℕ → List ℕ → ℕ → ℕ → ℕ → ℕ → Meeting → Type 0
+-- m is what the descents from bucket b come to by the one list of values and by the other
+abbrev pub Meets : List ℕ → List ℕ → List ℕ → ℕ → ℕ → ℕ → ℕ → Result Landed Parting → Type 0
 Meets plan old new x t r b m = Descents m (descend (view_in plan old) x t r b) (descend (view_in plan new) x t r b)
 
 -- descents that land together land in the map
-abbrev pub MeetingBounds : Meeting → Type 0
-MeetingBounds m = (l : Landed) → m ≡ Together l → LandedBounds l
-
-pub apart-bounds : (p : Parting) → MeetingBounds (Apart p)
-apart-bounds p l q = absurd (let z : ◌≡◌ {A = ℕ} 0 1 = cc in omega arith)
-
-together-bounds : (k : Landed) → LandedBounds k → MeetingBounds (Together k)
-together-bounds k h l q = let e : k ≡ l = cc in subst LandedBounds e h
+abbrev pub MeetingBounds : Result Landed Parting → Type 0
+MeetingBounds m = IfOk m LandedBounds
 
 -- a draw of none, and a draw of an item in range
-pub none-bounds : (b : ℕ) → b < 256 → MeetingBounds (Together (record { bucket = b; drawn = Nothing }))
-none-bounds b h = together-bounds _ (h, λ i q. absurd (let z : ◌≡◌ {A = ℕ} 0 1 = cc in omega arith))
+pub none-bounds : (b : ℕ) → b < 256 → MeetingBounds (Ok (record { bucket = b; drawn = None }))
+none-bounds b h = (h, λ i q. absurd (let z : ◌≡◌ {A = ℕ} 0 1 = cc in omega arith))
 
-pub winner-bounds : (b i : ℕ) → b < 256 → ItemRange i → MeetingBounds (Together (record { bucket = b; drawn = Winner i }))
-winner-bounds b i h g = together-bounds _ (h, λ j q. let e : i ≡ j = cc in subst ItemRange e g)
+pub winner-bounds : (b i : ℕ) → b < 256 → ItemRange i → MeetingBounds (Ok (record { bucket = b; drawn = Some i }))
+winner-bounds b i h g = (h, λ j q. let e : i ≡ j = cc in subst ItemRange e g)
 
 module _ {plan : List ℕ} (sound : Sound plan) (old new : List ℕ) (x t r b : ℕ) where
-  abbrev drawn : List ℕ → Drawn
+  abbrev drawn : List ℕ → Option ℕ
   drawn vs = draw_at (view_in plan vs) x r b
 
-  abbrev Met : ℕ → Meeting → Type 0
+  abbrev Met : ℕ → Result Landed Parting → Type 0
   Met = Meets plan old new x t r
 
-  pub meets-apart : (d d' : Drawn) → drawn old ≡ d → drawn new ≡ d' → same_drawn d d' ≡ false → Met b (Apart (Draw d d'))
+  pub meets-apart : (d d' : Option ℕ) → drawn old ≡ d → drawn new ≡ d' → same_drawn d d' ≡ false → Met b (Err (Draw d d'))
   meets-apart d d' e e' h = meet-apart _ _ (λ i. refl) (sound-sinks sound old) (sound-sinks sound new) x t r b d d' e e' h
 
-  pub meets-none : drawn old ≡ Nothing → drawn new ≡ Nothing → Met b (Together (record { bucket = b; drawn = Nothing }))
+  pub meets-none : drawn old ≡ None → drawn new ≡ None → Met b (Ok (record { bucket = b; drawn = None }))
   meets-none e e' = meet-none _ _ (λ i. refl) (sound-sinks sound old) (sound-sinks sound new) x t r b e e'
 
-  module _ (i : ℕ) (e : drawn old ≡ Winner i) (e' : drawn new ≡ Winner i) where
-    pub meets-stop : type_in plan i ≤ t → Met b (Together (record { bucket = b; drawn = Winner i }))
+  module _ (i : ℕ) (e : drawn old ≡ Some i) (e' : drawn new ≡ Some i) where
+    pub meets-stop : type_in plan i ≤ t → Met b (Ok (record { bucket = b; drawn = Some i }))
     meets-stop l = meet-stop _ _ (λ i. refl) (sound-sinks sound old) (sound-sinks sound new) x t r b i e e' l
 
-    pub meets-down : (m : Meeting) → t < type_in plan i → Met (bucket_number i) m → Met b m
+    pub meets-down : (m : Result Landed Parting) → t < type_in plan i → Met (bucket_number i) m → Met b m
     meets-down m l rest = meet-down _ _ (λ i. refl) (sound-sinks sound old) (sound-sinks sound new) x t r b i m e e' l rest

@@ -1,23 +1,21 @@
 -- Where two lists of events part: at an event whose ends differ, whatever comes behind it. Assumes nothing.
-use Rattle.std.specs.Prelude.{◌≡◌, refl, true, false, List, [], ◌∷◌, ◌++◌, ℕ}
-use Rattle.std.proofs.Common.{ap, ◌∙◌, append-nil, append_assoc, arith, eq-eqb, eqb-true}
+use Rattle.std.specs.Prelude.{◌≡◌, refl, true, false, List, [], ◌∷◌, ◌++◌, ℕ, Option, None, Some}
+use Rattle.std.proofs.Common.{ap, ◌∙◌, append-nil, append_assoc, eq-eqb, eqb-true}
 use Rattle.std.proofs.lemmas.Bool.{false≢true}
-use Rattle.definitions.specs.declared.Drawn.{Drawn}
-use Rattle.definitions.specs.declared.Drawn.TheVariants.{Winner, Nothing}
 use Rattle.definitions.specs.declared.Verdict.{Verdict}
 use Rattle.definitions.specs.declared.Verdict.TheVariants.{Held, Rejected, Passed}
 use Rattle.definitions.specs.declared.Event.{Event}
 use Rattle.definitions.specs.declared.Event.TheVariants.{Drew, Tested}
 use Rattle.definitions.specs.declared.Parting.{Parting}
-use Rattle.definitions.specs.declared.Parting.TheVariants.{Same, Draw, Test}
+use Rattle.definitions.specs.declared.Parting.TheVariants.{Draw, Test}
 use Rattle.definitions.specs.Edit.{same_drawn, same_verdict, ends_of, or_else, parting}
 
 -- ---- ends that are the same
 
-drawn-self : (d : Drawn) → same_drawn d d ≡ true
+drawn-self : (d : Option ℕ) → same_drawn d d ≡ true
 unfolding same_drawn
-drawn-self (Winner i) = eq-eqb i i refl
-drawn-self Nothing = refl
+drawn-self (Some i) = eq-eqb i i refl
+drawn-self None = refl
 
 verdict-self : (w : Verdict) → same_verdict w w ≡ true
 unfolding same_verdict
@@ -25,12 +23,12 @@ verdict-self Held = refl
 verdict-self Rejected = refl
 verdict-self Passed = refl
 
-pub drawn-eq : (d e : Drawn) → same_drawn d e ≡ true → d ≡ e
+pub drawn-eq : (d e : Option ℕ) → same_drawn d e ≡ true → d ≡ e
 unfolding same_drawn
-drawn-eq (Winner i) (Winner j) h = ap Winner (eqb-true i j h)
-drawn-eq (Winner i) Nothing h = absurd (false≢true h)
-drawn-eq Nothing (Winner j) h = absurd (false≢true h)
-drawn-eq Nothing Nothing h = refl
+drawn-eq (Some i) (Some j) h = ap Some (eqb-true i j h)
+drawn-eq (Some i) None h = absurd (false≢true h)
+drawn-eq None (Some j) h = absurd (false≢true h)
+drawn-eq None None h = refl
 
 pub verdict-eq : (u w : Verdict) → same_verdict u w ≡ true → u ≡ w
 unfolding same_verdict
@@ -44,7 +42,7 @@ verdict-eq Passed Held h = absurd (false≢true h)
 verdict-eq Passed Rejected h = absurd (false≢true h)
 verdict-eq Passed Passed h = refl
 
-ends-self : (e : Event) → ends_of e e ≡ Same
+ends-self : (e : Event) → ends_of e e ≡ None
 unfolding ends_of
 ends-self (Drew b r d) = simp (drawn-self d)
 ends-self (Tested i w) = simp (verdict-self w)
@@ -57,17 +55,16 @@ unfolding parting or_else
 parting-front [] fs gs = refl
 parting-front (e ∷ es) fs gs = simp (ends-self e, parting-front es fs gs)
 
-pub parting-self : (es : List Event) → parting es es ≡ Same
+pub parting-self : (es : List Event) → parting es es ≡ None
 unfolding parting or_else
 parting-self [] = refl
 parting-self (e ∷ es) = simp (ends-self e, parting-self es)
 
 -- the events es and fs part, and the ends there are p: no event behind them is reached
 pub record PartsTo (es fs : List Event) (p : Parting) : Type 0 where
-  pub ends : (xs ys : List Event) → parting (es ++ xs) (fs ++ ys) ≡ p
-  pub apart : p ≡ Same → ⊥
+  pub ends : (xs ys : List Event) → parting (es ++ xs) (fs ++ ys) ≡ Some p
 
-pub parts-to : {es fs : List Event} {p : Parting} → PartsTo es fs p → parting es fs ≡ p
+pub parts-to : {es fs : List Event} {p : Parting} → PartsTo es fs p → parting es fs ≡ Some p
 parts-to {es} {fs} k = rw (← append-nil es, ← append-nil fs) (k.ends [] [])
 
 -- behind one beginning
@@ -75,7 +72,6 @@ pub parts-after : (es : List Event) {fs gs : List Event} {p : Parting} → Parts
 parts-after es {fs} {gs} k =
     record {
       ends = λ xs ys. rw (append_assoc es fs xs, append_assoc es gs ys) (parting-front es (fs ++ xs) (gs ++ ys) ∙ k.ends xs ys);
-      apart = k.apart;
     }
 
 -- with more behind them
@@ -83,19 +79,18 @@ pub parts-before : (xs ys : List Event) {es fs : List Event} {p : Parting} → P
 parts-before xs ys {es} {fs} k =
     record {
       ends = λ us ws. rw (append_assoc es xs us, append_assoc fs ys ws) (k.ends (xs ++ us) (ys ++ ws));
-      apart = k.apart;
     }
 
 -- two draws that end differently
-pub draws-part : (b r : ℕ) (d e : Drawn) (es fs : List Event) → same_drawn d e ≡ false
+pub draws-part : (b r : ℕ) (d e : Option ℕ) (es fs : List Event) → same_drawn d e ≡ false
     → PartsTo (Drew b r d ∷ es) (Drew b r e ∷ fs) (Draw d e)
 unfolding parting ends_of or_else
 draws-part b r d e es fs h =
-    record { ends = λ xs ys. simp h; apart = λ q. let z : ◌≡◌ {A = ℕ} 0 1 = cc in omega arith }
+    record { ends = λ xs ys. simp h }
 
 -- two tests that end differently
 pub tests-part : (i : ℕ) (u w : Verdict) (es fs : List Event) → same_verdict u w ≡ false
     → PartsTo (Tested i u ∷ es) (Tested i w ∷ fs) (Test u w)
 unfolding parting ends_of or_else
 tests-part i u w es fs h =
-    record { ends = λ xs ys. simp h; apart = λ q. let z : ◌≡◌ {A = ℕ} 0 1 = cc in omega arith }
+    record { ends = λ xs ys. simp h }

@@ -1,10 +1,9 @@
 // Two descents from one bucket, by the old values and by the new, made at once.
 ghost use Rattle.std.specs.Prelude.{◌<◌};
-ghost use Rattle.hierarchy.specs.Arrays.{Sound};
 ghost use Rattle.lockstep.specs.Meets.{Meets, MeetingBounds};
 
-use crate::{Meeting, partings};
-use definitions::{Drawn, Landed, Parting};
+use crate::{Together, partings};
+use definitions::{Landed, Parting};
 use hierarchy::{Plan, Values};
 use item::Item;
 
@@ -17,30 +16,32 @@ pub fn meet<'a>(
     t: u32,
     r: u32,
     b: u32,
-) -> Meeting
-    requires { Sound plan.now × (b < 256) }
+) -> Together<Landed>
+    requires { b < 256 }
     ensures meets { Meets plan.now old.now new.now x t r b result }
     ensures bounds { MeetingBounds result }
 {
+    // Read of the plan only for the proof, which learns here that the plan is sound.
+    let _ = &plan.words;
     let d = descent::draw_at(plan, old, x, r, b);
     let d2 = descent::draw_again(plan, old, new, x, r, b, d);
     if !partings::same_drawn(d, d2) {
-        return Meeting::Apart(Parting::Draw(d, d2));
+        return Err(Parting::Draw(d, d2));
     }
-    let Drawn::Winner(i) = d else {
-        return Meeting::Together(Landed {
+    let Some(i) = d else {
+        return Ok(Landed {
             bucket: b,
-            drawn: Drawn::Nothing,
+            drawn: d,
         });
     };
-    if t < descent::type_of(plan, i) {
-        let child = Item::numbered(i);
+    if t < descent::type_of(&plan.words, i) {
+        let child = Item::from(i);
         let c = child.bucket_number();
         meet(plan, old, new, x, t, r, c)
     } else {
-        Meeting::Together(Landed {
+        Ok(Landed {
             bucket: b,
-            drawn: Drawn::Winner(i),
+            drawn: d,
         })
     }
 }

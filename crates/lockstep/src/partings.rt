@@ -2,64 +2,34 @@
 ghost use Rattle.std.specs.Prelude.{◌≡◌};
 ghost use Rattle.definitions.specs.Edit.{same_drawn, same_verdict, cause_of};
 
-use definitions::{Drawn, Parting, Verdict};
+use definitions::{Parting, Verdict};
 
-pub fn same_drawn(d: Drawn, e: Drawn) -> bool
+pub fn same_drawn(d: Option<u32>, e: Option<u32>) -> bool
     ensures { result ≡ same_drawn d e }
 {
-    match d {
-        Drawn::Winner(i) => match e {
-            Drawn::Winner(j) => i == j,
-            Drawn::Nothing => false,
-        },
-        Drawn::Nothing => match e {
-            Drawn::Winner(_) => false,
-            Drawn::Nothing => true,
-        },
-    }
+    d == e
 }
 
 pub fn same_verdict(v: Verdict, w: Verdict) -> bool
     ensures { result ≡ same_verdict v w }
 {
-    match v {
-        Verdict::Held => match w {
-            Verdict::Held => true,
-            Verdict::Rejected => false,
-            Verdict::Passed => false,
-        },
-        Verdict::Rejected => match w {
-            Verdict::Held => false,
-            Verdict::Rejected => true,
-            Verdict::Passed => false,
-        },
-        Verdict::Passed => match w {
-            Verdict::Held => false,
-            Verdict::Rejected => false,
-            Verdict::Passed => true,
-        },
-    }
+    v == w
 }
 
 // "Where 01 and 03 both apply, 03."
-pub fn cause(p: Parting) -> u32
+// A number, as in a frame 13, and as `Edit.cause_of` and the theorems on it say it.
+pub fn cause(p: Option<Parting>) -> u32
     ensures { result ≡ cause_of p }
 {
-    match p {
-        Parting::Same => 0,
+    let Some(q) = p else {
+        return 0;
+    };
+    match q {
         Parting::Draw(_, _) => 2,
-        Parting::Test(v, w) => match v {
-            Verdict::Held => 3,
-            Verdict::Rejected => match w {
-                Verdict::Held => 3,
-                Verdict::Rejected => 1,
-                Verdict::Passed => 1,
-            },
-            Verdict::Passed => match w {
-                Verdict::Held => 3,
-                Verdict::Rejected => 1,
-                Verdict::Passed => 1,
-            },
+        Parting::Test(v, w) => if v == Verdict::Held || w == Verdict::Held {
+            3
+        } else {
+            1
         },
     }
 }

@@ -1,26 +1,26 @@
 // Two ranks of one place, in the old run and in the new, made at once: where their walks first part.
 ghost use Rattle.std.specs.Prelude.{◌≡◌, ◌<◌, ◌≤◌};
 ghost use Rattle.definitions.specs.Walk.{verdict_of};
-ghost use Rattle.hierarchy.specs.Arrays.{view_in, ItemRange, Sound};
+ghost use Rattle.hierarchy.specs.Arrays.{view_in, ItemRange};
 ghost use Rattle.descent.specs.Descent.{LandedBounds};
 ghost use Rattle.walk.specs.Searches.{SearchBounds, test_at, turn_at, rank_at};
 ghost use Rattle.walk.specs.Bounds.{Going, Testable};
-ghost use Rattle.lockstep.specs.Lockstep.{Tests, Turns, Ranks, plain_both, held_end, on_course, on_trials};
-ghost use Rattle.lockstep.specs.Rounds.{Follows, Brief, Short, RoundBounds};
+ghost use Rattle.lockstep.specs.Lockstep.{Tests, Turns, Ranks, plain_both, held_end};
+ghost use Rattle.lockstep.specs.Rounds.{Follows, RoundBounds};
 
-use crate::{Course, Meeting, Round, Trials, descents, partings};
-use definitions::{Drawn, Landed, Mode, Parting, State, Turn, Verdict};
+use crate::{Together, descents, partings};
+use definitions::{Landed, Mode, Parting, Ranked, State, Tried, Turn, Verdict};
 use hierarchy::{Plan, Values};
 use walk::Search;
 
 // What two tests of item i come to that end in w and w2, and of which the item is the entry.
-fn part_plain(i: u32, w: Verdict, w2: Verdict) -> Trials
+fn part_plain(i: u32, w: Verdict, w2: Verdict) -> Together<Tried>
     ensures { result ≡ plain_both i w w2 }
 {
     if partings::same_verdict(w, w2) {
-        Trials::Agreed(walk::plain(i, w))
+        Ok(walk::plain(i, w))
     } else {
-        Trials::Split(Parting::Test(w, w2))
+        Err(Parting::Test(w, w2))
     }
 }
 
@@ -40,26 +40,15 @@ fn part_verdicts<'a, 'b, 'c>(
     olds: &'b [u32],
     news: &'c [u32],
     i: u32,
-) -> Trials
+) -> Together<Tried>
     requires { ItemRange i }
     ensures { result ≡ plain_both i
         (verdict_of (view_in plan.now old.now) x olds.now i)
         (verdict_of (view_in plan.now new.now) x news.now i) }
 {
-    let w = walk::verdict(plan, old, x, olds, i);
-    let w2 = walk::verdict(plan, new, x, news, i);
+    let w = walk::verdict(&plan.words, old, x, olds, i);
+    let w2 = walk::verdict(&plan.words, new, x, news, i);
     part_plain(i, w, w2)
-}
-
-// What an inner walk of both makes of the two tests of the item.
-fn on_course(k: Course) -> Trials
-    requires { Brief k }
-    ensures { result ≡ on_course k }
-{
-    match k {
-        Course::Forked(p) => Trials::Split(p),
-        Course::Shared(r) => Trials::Agreed(walk::found(r)),
-    }
 }
 
 // What the two tests of item i come to, drawn with r' = q. Where neither run of a select through holds it, the inner walks are made at once
@@ -75,8 +64,7 @@ pub fn part_tests<'a, 'b, 'c>(
     news: &'c [u32],
     q: u32,
     i: u32,
-) -> Trials
-    requires sound { Sound plan.now }
+) -> Together<Tried>
     requires testable { Testable plan.now search q i }
     ensures { Tests result
         (test_at (view_in plan.now old.now) x search olds.now q i)
@@ -94,20 +82,9 @@ pub fn part_tests<'a, 'b, 'c>(
                 return part_plain(i, held_end(h), held_end(h2));
             }
             let beneath = walk::inner(wanted.n, q, i);
-            let k = part_rank(plan, old, new, x, beneath, olds, news, 0);
-            on_course(k)
+            let k = part_rank(plan, old, new, x, beneath, olds, news, 0)?;
+            Ok(walk::found(k))
         }
-    }
-}
-
-// What the two tests of item i, drawn from bucket b, make of a turn of both.
-pub fn on_trials(start: u32, s: State, b: u32, i: u32, k: Trials) -> Round
-    requires { Going s × Short k }
-    ensures { result ≡ on_trials start s b i k }
-{
-    match k {
-        Trials::Split(p) => Round::Left(p),
-        Trials::Agreed(w) => Round::Joined(walk::on_tried(start, s, b, i, w)),
     }
 }
 
@@ -123,8 +100,7 @@ fn part_landed<'a, 'b, 'c>(
     news: &'c [u32],
     s: State,
     l: Landed,
-) -> Round
-    requires sound { Sound plan.now }
+) -> Together<Turn>
     requires search_bounds { SearchBounds search × Going s × LandedBounds l }
     ensures follows { Follows plan.now old.now new.now x search
         olds.now news.now s l result }
@@ -133,15 +109,15 @@ fn part_landed<'a, 'b, 'c>(
     let t = search.wanted.t;
     let start = search.start;
     let drawn = l.drawn;
-    let Drawn::Winner(i) = drawn else {
-        return Round::Joined(Turn::Fail(walk::failed_to(start, 0, s)));
+    let Some(i) = drawn else {
+        return Ok(Turn::Fail(walk::failed_to(start, 0, s)));
     };
-    if descent::type_of(plan, i) != t {
-        return Round::Joined(Turn::Fail(walk::failed_to(start, 0, s)));
+    if descent::type_of(&plan.words, i) != t {
+        return Ok(Turn::Fail(walk::failed_to(start, 0, s)));
     }
     let q = walk::try_number(search, s);
-    let k = part_tests(plan, old, new, x, search, olds, news, q, i);
-    on_trials(start, s, l.bucket, i, k)
+    let w = part_tests(plan, old, new, x, search, olds, news, q, i)?;
+    Ok(walk::on_tried(start, s, l.bucket, i, w))
 }
 
 // One turn of both.
@@ -155,8 +131,7 @@ fn part_turn<'a, 'b, 'c>(
     olds: &'b [u32],
     news: &'c [u32],
     s: State,
-) -> Round
-    requires sound { Sound plan.now }
+) -> Together<Turn>
     requires search_bounds { SearchBounds search × (s.at < 256) × Going s }
     ensures turns { Turns result
         (turn_at (view_in plan.now old.now) x search olds.now s)
@@ -164,11 +139,8 @@ fn part_turn<'a, 'b, 'c>(
     ensures bounds { RoundBounds result }
 {
     let q = walk::try_number(search, s);
-    let m = descents::meet(plan, old, new, x, search.wanted.t, q, s.at);
-    match m {
-        Meeting::Apart(p) => Round::Left(p),
-        Meeting::Together(l) => part_landed(plan, old, new, x, search, olds, news, s, l),
-    }
+    let l = descents::meet(plan, old, new, x, search.wanted.t, q, s.at)?;
+    part_landed(plan, old, new, x, search, olds, news, s, l)
 }
 
 // One rank of both, up to where their walks first part. f0 is f as the rank starts.
@@ -182,8 +154,7 @@ pub fn part_rank<'a, 'b, 'c>(
     olds: &'b [u32],
     news: &'c [u32],
     f0: u32,
-) -> Course
-    requires sound { Sound plan.now }
+) -> Together<Ranked>
     requires search_bounds { SearchBounds search × (f0 ≤ 1000) }
     ensures { Ranks result
         (rank_at (view_in plan.now old.now) x search olds.now f0)
@@ -195,15 +166,12 @@ pub fn part_rank<'a, 'b, 'c>(
         f: f0,
         inner: 0,
     };
+    // No range: each turn gives the state that the next begins in, and the state counts its failures.
     while s.fr < 50 {
-        let k = part_turn(plan, old, new, x, search, olds, news, s);
-        match k {
-            Round::Left(p) => return Course::Forked(p),
-            Round::Joined(u) => match u {
-                Turn::Fill(i, e, j) => return Course::Shared(walk::rank_end(i, e, j, s)),
-                Turn::Fail(next) => s = next,
-            },
+        match part_turn(plan, old, new, x, search, olds, news, s)? {
+            Turn::Fill(i, e, j) => return Ok(walk::rank_end(i, e, j, s)),
+            Turn::Fail(next) => s = next,
         }
     }
-    Course::Shared(walk::rank_end(walk::HOLE, walk::HOLE, 0, s))
+    Ok(walk::rank_end(walk::HOLE, walk::HOLE, 0, s))
 }

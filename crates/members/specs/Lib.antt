@@ -6,5 +6,4 @@ pub mod Present
 pub mod Once
 pub mod Totals
 pub mod Counts
-pub mod Sizes
 pub mod Sums

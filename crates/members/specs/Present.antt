@@ -1,9 +1,10 @@
 -- Questions 7 and 9, of each link and each step, by the levels of the items. Assumes nothing.
-use Rattle.std.specs.Prelude.{◌≡◌, Bool, cond, ◌&&◌, ◌||◌, List, ℕ, ◌+◌, ◌<◌, ◌≤◌, leb, eqb, length, get_or}
+use Rattle.std.specs.Prelude.{◌≡◌, Bool, cond, not, ◌&&◌, ◌||◌, List, ℕ, ◌+◌, ◌<◌, ◌≤◌, leb, eqb, length, get_or}
 use Rattle.std.proofs.Math.Path.{refl}
-use Rattle.std.proofs.Common.{sym, ap, ◌∙◌, arith}
+use Rattle.std.proofs.Common.{sym, ◌∙◌, arith}
 use Rattle.std.proofs.Math.Bool.{true, false}
 use Rattle.std.proofs.Math.Dec.{ltb}
+use Rattle.std.proofs.lemmas.Bool.{false≢true}
 use borrow.Author.Tests.{lt-ltb, le-ltb, le-leb, ltb-true, ltb-false, eqb-true, ne_eqb, eq-eqb, leb-true}
 use Rattle.definitions.specs.declared.Link.{Link}
 use Rattle.definitions.specs.declared.Step.{Step}
@@ -46,6 +47,26 @@ module _ (m : Map) (b : ℕ) where
   unfolding type_of type_by
   type-bucket = rw (le-leb 65536 (bucket_item b) (omega arith), number-back)
 
+-- ---- a step
+
+-- one of another kind than 1 takes no bucket
+step_other : (m : Map) (p : Step) → (p.step ≡ 1 → ⊥) → true ≡ step_present m p
+unfolding takes_present action_of
+step_other m p n = rw (ne_eqb p.step 1 n) (go (eqb p.step 2) (eqb p.step 3) (eqb p.step 4) (eqb p.step 5))
+  where
+    through : (d : Bool) → true ≡ takes_present m (cond d (Select Through p.count p.ty) Idle)
+    through true = refl
+    through false = refl
+
+    go : (a b c d : Bool)
+        → true
+        ≡ takes_present m
+        (cond a (Select FirstN p.count p.ty) (cond b (Select Independent p.count p.ty) (cond c Emit (cond d (Select Through p.count p.ty) Idle))))
+    go true b c d = refl
+    go false true c d = refl
+    go false false true d = refl
+    go false false false d = through d
+
 -- ---- by the levels
 
 ltb-more : (a b : ℕ) → ltb (a + 1) (b + 1) ≡ ltb a b
@@ -73,48 +94,27 @@ module _ (m : Map) (r : List ℕ) (h : Levels m r) where
   unfolding level_of
   level-type i c e = h.level i c ∙ rw e
 
-  -- the questions of link l, whose bucket has the level v, and its child the level w
-  module _ (l : Link) (q : LinkRanged l) (v : ℕ) (b : v ≡ looked_up r (bucket_item l.bucket)) where
-    pub link-absent : v ≡ 0 → false ≡ link_present m l
-    link-absent z =
-        let e : has_bucket m l.bucket ≡ false = sym (has-bucket-level l.bucket q.bucket) ∙ le-ltb 0 (looked_up r (bucket_item l.bucket)) (omega (arith, b, z)) in
-        rw e
+  -- the questions of link l, by the levels of its two items
+  module _ (l : Link) (q : LinkRanged l) where
+    pub link-there : ltb 0 (looked_up r (bucket_item l.bucket)) && ltb 0 (looked_up r l.child) ≡ link_present m l
+    link-there = rw (has-bucket-level l.bucket q.bucket, has-level l.child q.child) refl
 
-    pub link-there : (w : ℕ) → (v ≡ 0 → ⊥) → w ≡ looked_up r l.child → ltb 0 w ≡ link_present m l
-    link-there w z c =
-        let e : has_bucket m l.bucket ≡ true = sym (has-bucket-level l.bucket q.bucket) ∙ lt-ltb 0 (looked_up r (bucket_item l.bucket)) (omega (arith, b)) in
-        rw (e, c) (has-level l.child q.child)
-
-    pub link-falls : (w : ℕ) → link_present m l ≡ true → w ≡ looked_up r l.child → ltb w v ≡ link_falls m l
-    link-falls w p c =
+    pub link-falls : link_present m l ≡ true → ltb (looked_up r l.child) (looked_up r (bucket_item l.bucket)) ≡ link_falls m l
+    link-falls p =
         let (d, e) = both (has_bucket m l.bucket) (has_item m l.child) p in
-        rw (b, c, level-type l.child q.child e, level-type (bucket_item l.bucket) (bucket-item l.bucket q.bucket) (has-bucket m l.bucket ∙ d), type-bucket m l.bucket)
+        rw (level-type l.child q.child e, level-type (bucket_item l.bucket) (bucket-item l.bucket q.bucket) (has-bucket m l.bucket ∙ d), type-bucket m l.bucket)
         (ltb-more (type_of m l.child) (bucket_type m l.bucket))
 
-  -- and of a step that takes a bucket, whose level is v
-  pub step-takes : (p : Step) (v : ℕ) → p.step ≡ 1 → p.bucket ≤ 255 → v ≡ looked_up r (bucket_item p.bucket) → ltb 0 v ≡ step_present m p
+  -- and of a step: one of kind 1 takes a bucket, and no other takes one
+  pub step-there : (p : Step) → (p.step ≡ 1 → p.bucket ≤ 255) → not (eqb p.step 1) || ltb 0 (looked_up r (bucket_item p.bucket)) ≡ step_present m p
   unfolding takes_present action_of
-  step-takes p v e l q = rw (eq-eqb p.step 1 e, q) (has-bucket-level p.bucket l)
+  step-there p l = go (eqb p.step 1) refl
+    where
+      go : (t : Bool) → eqb p.step 1 ≡ t → not t || ltb 0 (looked_up r (bucket_item p.bucket)) ≡ step_present m p
+      go true e = rw e (has-bucket-level p.bucket (l (eqb-true p.step 1 e)))
+      go false e = step_other m p (λ n. false≢true (sym e ∙ eq-eqb p.step 1 n))
 
 -- ---- steps
-
--- one that takes no bucket
-pub step_other : (m : Map) (p : Step) → (p.step ≡ 1 → ⊥) → true ≡ step_present m p
-unfolding takes_present action_of
-step_other m p n = rw (ne_eqb p.step 1 n) (go (eqb p.step 2) (eqb p.step 3) (eqb p.step 4) (eqb p.step 5))
-  where
-    through : (d : Bool) → true ≡ takes_present m (cond d (Select Through p.count p.ty) Idle)
-    through true = refl
-    through false = refl
-
-    go : (a b c d : Bool)
-        → true
-        ≡ takes_present m
-        (cond a (Select FirstN p.count p.ty) (cond b (Select Independent p.count p.ty) (cond c Emit (cond d (Select Through p.count p.ty) Idle))))
-    go true b c d = refl
-    go false true c d = refl
-    go false false true d = refl
-    go false false false d = through d
 
 -- the bucket that a step takes is in range
 pub step-bucket : (p : Step) → step_ranged p ≡ true → p.step ≡ 1 → p.bucket ≤ 255
@@ -139,11 +139,11 @@ step-bucket p r e = go (take_ranged p) refl (select_ranged p) refl r
         let b = (both (eqb p.step 4 && eqb p.count 0) (eqb p.ty 0) a).0 in
         absurd (omega (arith, eqb-true p.step 4 (both (eqb p.step 4) (eqb p.count 0) b).0))
 
--- step k
-pub step_in_lem : (m : Map) → ranged m ≡ true → (k : ℕ) (p : Step) → k < length m.steps → p ≡ get_or m.steps k no_step → step_ranged p ≡ true
-step_in_lem m h k p l e = ap step_ranged e ∙ every-at step_ranged m.steps k no_step (ranged-is m h).steps l
+-- and step k is in range
+pub step-in : (m : Map) → ranged m ≡ true → (k : ℕ) → k < length m.steps → step_ranged (get_or m.steps k no_step) ≡ true
+step-in m h k l = every-at step_ranged m.steps k no_step (ranged-is m h).steps l
 
--- ---- question 7, as two loops ask it
+-- ---- question 7, put to each link and each step
 
 pub present-by : (m : Map) → every (link_present m) m.links && every (step_present m) m.steps ≡ present m
 unfolding present actions_of

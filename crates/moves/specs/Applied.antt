@@ -1,7 +1,7 @@
 -- What an edit or a return writes, row by row: the moves into the space for them, and the new rows over the old. Assumes nothing.
-use Rattle.std.specs.Prelude.{◌≡◌, refl, Bool, cond, get_or}
+use Rattle.std.specs.Prelude.{◌≡◌, refl, get_or}
 use Rattle.std.proofs.Math.Path.{sym, ap, ap₂}
-use Rattle.std.proofs.Common.{◌∙◌, add-one, eq-or-lt_of_le, mul-le-mul_right, zero-mul, zero-add, length-drop, drop_of_length-le, take_all, length-take-le}
+use Rattle.std.proofs.Common.{◌∙◌, add-one, eq-or-lt_of_le, mul-le-mul_right, zero-mul, zero-add, length-drop, length-take-le}
 use mathlib.Core.List.{List, [], ◌∷◌, ◌++◌, append-nil, append_assoc}
 use Rattle.std.proofs.Math.Logic.{⊎_elim}
 use Prim.Native.Nat.{ℕ, zero, suc, ◌+◌, ◌-◌, ◌*◌, ◌<◌, ◌≤◌}
@@ -22,7 +22,8 @@ use Rattle.hierarchy.specs.declared.Rule.{Rule}
 use Rattle.survey.specs.Rows.{same_rows}
 use Rattle.survey.specs.Places.{list_at, places_at, moves_at}
 use Rattle.survey.specs.Surveyed.{rows_to, moves_by, rows_split}
-use Rattle.moves.specs.Changes.{as_told, told_none, told-append, told-length, changes_to, Written, changes-moves, written_none, written-more, written-length, bytes-append, length-bytes}
+use Rattle.moves.specs.declared.applies.Mover.{Mover}
+use Rattle.moves.specs.Changes.{as_told, cause_told, told_none, told-append, told-length, changes_to, Written, changes-moves, written_none, written-more, written-length, bytes-append, length-bytes}
 use Rattle.survey.specs.Between.{Between, new-table, moves-are}
 
 -- every list is w long
@@ -43,11 +44,11 @@ module _ (plan values : List ℕ) (rule : Rule) (w : ℕ) (long : Long plan valu
   unfolding entries_of
   length-row = length-map (places_at plan values rule w x) (λ (p : Place). p.entry) ∙ length-places
 
--- cs has the causes of the places of group g at its front: in a return (r) 04 each
-abbrev pub ToldBy : Bool → List ℕ → List ℕ → List ℕ → Rule → ℕ → List ℕ → Type 0
+-- cs has the causes of the places of group g at its front, as r tells them
+abbrev pub ToldBy : Mover → List ℕ → List ℕ → List ℕ → Rule → ℕ → List ℕ → Type 0
 ToldBy r plan old new rule g cs =
     (j : ℕ) → j < length (list_at plan old rule g)
-    → get_or cs j 0 ≡ cond r 4 (cause_of (parting (get_or (list_at plan old rule g) j nowhere).walk (get_or (list_at plan new rule g) j nowhere).walk))
+    → get_or cs j 0 ≡ cause_told r (cause_of (parting (get_or (list_at plan old rule g) j nowhere).walk (get_or (list_at plan new rule g) j nowhere).walk))
 
 module _ (plan old new : List ℕ) (rule : Rule) (w g : ℕ) (l : Long plan old rule w) (l' : Long plan new rule w) where
   abbrev ps : List Place
@@ -57,14 +58,14 @@ module _ (plan old new : List ℕ) (rule : Rule) (w g : ℕ) (l : Long plan old 
   qs = places_at plan new rule w g
 
   -- with them what is written are the moves of its row
-  pub told-moves : (r : Bool) (cs row row' : List ℕ) → ToldBy r plan old new rule g cs → row ≡ entries_of ps → row' ≡ entries_of qs
+  pub told-moves : (r : Mover) (cs row row' : List ℕ) → ToldBy r plan old new rule g cs → row ≡ entries_of ps → row' ≡ entries_of qs
       → changes_to g row row' cs (length row) ≡ as_told r (moves_at plan old new rule w g)
   told-moves r cs row row' c e e' =
       let k : length row ≡ w = ap length e ∙ length-row plan old rule w l g in
       ap₂ (λ (a b : List ℕ). changes_to g a b cs (length row)) e e' ∙ ap (changes_to g (entries_of ps) (entries_of qs) cs) k
       ∙ changes-moves r g ps qs cs w (omega (arith, length-places plan old rule w l g)) (omega (arith, length-places plan new rule w l' g))
       (λ j i. c j (omega (arith, l g))
-      ∙ ap₂ (λ (a b : List Place). cond r 4 (cause_of (parting (get_or a j nowhere).walk (get_or b j nowhere).walk))) (sym (places-list plan old rule w l g)) (sym (places-list plan new rule w l' g)))
+      ∙ ap₂ (λ (a b : List Place). cause_told r (cause_of (parting (get_or a j nowhere).walk (get_or b j nowhere).walk))) (sym (places-list plan old rule w l g)) (sym (places-list plan new rule w l' g)))
 
 -- ---- a row with no moves
 
@@ -74,11 +75,6 @@ unfolding moves_bytes bytes_of
 unmoved u at ms e h = rw e (written_none u at h)
 
 -- ---- row by row
-
--- a row that is copied over one of its length
-pub copied : (f t : List ℕ) (i : ℕ) → i ≡ length f → length f ≡ length t → take i f ++ drop i t ≡ f
-copied f t i e h =
-    ap₂ (λ (a b : List ℕ). a ++ b) (take_all i f (omega arith)) (drop_of_length-le t {i = i} (omega arith)) ∙ append-nil f
 
 -- the row of group g in its place
 pub record Rewritten (t s : List ℕ) (g w : ℕ) (row : List ℕ) : Type 0 where
@@ -101,8 +97,8 @@ rewritten-same t row g w e =
           ∙ ap (λ (l : List ℕ). take (g * w) t ++ l) (take-drop w (drop (g * w) t) ∙ ap₂ (λ (a b : List ℕ). a ++ b) e (drop-drop w (g * w) t));
     }
 
--- r says whether it is a return
-module _ (r : Bool) (w : ℕ) (f f' : ℕ → List Place) where
+-- r says what moves the places
+module _ (r : Mover) (w : ℕ) (f f' : ℕ → List Place) where
   abbrev Wide : (ℕ → List Place) → Type 0
   Wide h = (x : ℕ) → length (entries_of (h x)) ≡ w
 
@@ -196,7 +192,7 @@ module _ (r : Bool) (w : ℕ) (f f' : ℕ → List Place) where
       ∙ ap (λ (k : ℕ). over (moves_bytes (as_told r (moves_by w f f' k))) u) e
 
 -- and so of the two maps
-pub applied-maps : (r : Bool) {plan old new : List ℕ} {rule : Rule} {w : ℕ} {t table u space : List ℕ} {at : ℕ} (g groups : ℕ) → Long plan new rule w → g ≡ groups
+pub applied-maps : (r : Mover) {plan old new : List ℕ} {rule : Rule} {w : ℕ} {t table u space : List ℕ} {at : ℕ} (g groups : ℕ) → Long plan new rule w → g ≡ groups
     → Applied r w (places_at plan old rule w) (places_at plan new rule w) g t table u space at → (m m' : Map) → Between plan old new rule groups w m m'
     → (table ≡ over (table_of m') t) × (space ≡ over (moves_bytes (as_told r (moves_of m m'))) u)
 applied-maps r {plan} {old} {new} {rule} {w} {t} {u = u} g groups long e a m m' B =

@@ -10,26 +10,33 @@ use Rattle.definitions.specs.Edit.{parting, cause_of, move_at, row_moves_to, mov
 use Rattle.definitions.specs.States.{with_cause, return_moves}
 use Rattle.laws.specs.Lists.{get_d-mapped}
 use Rattle.lockstep.specs.MoveLine.{length-move}
+use Rattle.moves.specs.declared.applies.Mover.{Mover}
+use Rattle.moves.specs.declared.applies.Mover.TheVariants.{Edit, Return}
 
--- the moves as they are told: those of a return (true) all with cause 04
-abbrev pub as_told : Bool → List Move → List Move
-as_told true vs = return_moves vs
-as_told false vs = vs
+-- the moves as they are told: those of a return all with cause 04
+abbrev pub as_told : Mover → List Move → List Move
+as_told Edit vs = vs
+as_told Return vs = return_moves vs
 
-pub told_none : (r : Bool) → as_told r [] ≡ []
+-- and so the cause of one
+abbrev pub cause_told : Mover → ℕ → ℕ
+cause_told Edit k = k
+cause_told Return k = 4
+
+pub told_none : (r : Mover) → as_told r [] ≡ []
 unfolding return_moves
-told_none true = refl
-told_none false = refl
+told_none Edit = refl
+told_none Return = refl
 
-pub told-append : (r : Bool) (us vs : List Move) → as_told r (us ++ vs) ≡ as_told r us ++ as_told r vs
+pub told-append : (r : Mover) (us vs : List Move) → as_told r (us ++ vs) ≡ as_told r us ++ as_told r vs
 unfolding return_moves
-told-append true us vs = map-append (with_cause 4) us vs
-told-append false us vs = refl
+told-append Return us vs = map-append (with_cause 4) us vs
+told-append Edit us vs = refl
 
-pub told-length : (r : Bool) (vs : List Move) → length (as_told r vs) ≡ length vs
+pub told-length : (r : Mover) (vs : List Move) → length (as_told r vs) ≡ length vs
 unfolding return_moves
-told-length true vs = length-map vs (with_cause 4)
-told-length false vs = refl
+told-length Return vs = length-map vs (with_cause 4)
+told-length Edit vs = refl
 
 -- the move of a place of group g, where its entries differ
 unfoldable pub change_at : ℕ → ℕ → ℕ → ℕ → ℕ → List Move
@@ -53,18 +60,18 @@ changes-up g old new causes j (suc k) h =
     (eq-or-lt_of_le h)
 
 -- with the causes of its places, in a return 04 at each, they are the moves of a row
-change-told : (r : Bool) (g p : ℕ) (a b : Place) → change_at g p a.entry b.entry (cond r 4 (cause_of (parting a.walk b.walk))) ≡ as_told r (move_at g p a b)
+change-told : (r : Mover) (g p : ℕ) (a b : Place) → change_at g p a.entry b.entry (cause_told r (cause_of (parting a.walk b.walk))) ≡ as_told r (move_at g p a b)
 unfolding change_at move_at return_moves
-change-told false g p a b = refl
-change-told true g p a b = go (eqb a.entry b.entry)
+change-told Edit g p a b = refl
+change-told Return g p a b = go (eqb a.entry b.entry)
   where
     go : (t : Bool) → cond t [] (record { group = g; place = p; old = a.entry; new = b.entry; cause = 4 } ∷ [])
         ≡ map (with_cause 4) (cond t [] (record { group = g; place = p; old = a.entry; new = b.entry; cause = cause_of (parting a.walk b.walk) } ∷ []))
     go true = refl
     go false = refl
 
-pub changes-moves : (r : Bool) (g : ℕ) (ps qs : List Place) (causes : List ℕ) (k : ℕ) → k ≤ length ps → k ≤ length qs
-    → ((j : ℕ) → j < k → get_or causes j 0 ≡ cond r 4 (cause_of (parting (get_or ps j nowhere).walk (get_or qs j nowhere).walk)))
+pub changes-moves : (r : Mover) (g : ℕ) (ps qs : List Place) (causes : List ℕ) (k : ℕ) → k ≤ length ps → k ≤ length qs
+    → ((j : ℕ) → j < k → get_or causes j 0 ≡ cause_told r (cause_of (parting (get_or ps j nowhere).walk (get_or qs j nowhere).walk)))
     → changes_to g (entries_of ps) (entries_of qs) causes k ≡ as_told r (row_moves_to g ps qs k)
 unfolding changes_to row_moves_to entries_of
 changes-moves r g ps qs causes zero h l c = sym (told_none r)

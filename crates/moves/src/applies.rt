@@ -1,5 +1,5 @@
 // All groups that change: their moves, as an edit or a return tells them, and their new rows.
-ghost use Rattle.std.specs.Prelude.{◌≡◌, true, [], ℕ, ◌+◌, ◌*◌, ◌<◌, ◌≤◌, length, get_or, take, drop};
+ghost use Rattle.std.specs.Prelude.{◌≡◌, true, false, [], ℕ, ◌+◌, ◌*◌, ◌<◌, ◌≤◌, length, get_or, take, drop};
 ghost use Rattle.definitions.specs.Lists.{every, over};
 ghost use Rattle.definitions.specs.Map.{Map};
 ghost use Rattle.definitions.specs.Select.{entries_of};
@@ -17,31 +17,39 @@ use crate::row;
 use hierarchy::{Plan, Rule, Values};
 use survey::looks;
 
-// What is the same for all groups: how many they are, how many places each has, and whether a return moves them, or an edit.
+// What moves the places: an edit, with the causes where the walks part, or a return, with cause 04 at each.
+// An enum and no closure for the causes: a caller's closure would hold the old values, of which the clauses below speak.
+#[derive(Clone, Copy, PartialEq, Eq)]
+pub enum Mover {
+    Edit,
+    Return,
+}
+
+// What is the same for all groups: how many they are, how many places each has, and what moves them.
 #[derive(Clone, Copy)]
 pub struct Task {
     pub groups: u32,
     pub w: usize,
-    pub returning: bool,
+    pub mover: Mover,
 }
 
-// The causes of the places of group g, the first of the array. In a return they are all 04, wherever the walks part.
+// The causes of the places of group g, the first of the array.
 fn causes_for<'a>(
     plan: &'a Plan,
     old: &'a Values,
     new: &'a Values,
     rule: Rule,
     g: u32,
-    returning: bool,
+    mover: Mover,
 ) -> [u32; 32]
     requires runs { Runs plan.now old.now rule 32 × Runs plan.now new.now rule 32 × (every not_first_n (actions_in rule) ≡ true) }
     requires g_len_bound { length (list_at plan.now old.now rule g) ≤ 32 }
-    ensures { ToldBy returning plan.now old.now new.now rule g result }
+    ensures { ToldBy mover plan.now old.now new.now rule g result }
 {
-    if returning {
-        return [4; 32];
+    match mover {
+        Mover::Edit => causes::row_causes(plan, old, new, rule, g),
+        Mover::Return => [4; 32],
     }
-    causes::row_causes(plan, old, new, rule, g)
 }
 
 // The moves of group g, from byte `at` on, and its new row; and the byte behind the moves.
@@ -64,14 +72,13 @@ fn apply_group<'a, 'b, 'c>(
     ensures rewritten { Rewritten table.old table.new g task.w
         (entries_of (places_at plan.now new.now rule task.w g)) }
     ensures written { Written space.old space.new at result
-        (moves_bytes (as_told task.returning (moves_at plan.now old.now new.now rule task.w g))) }
+        (moves_bytes (as_told task.mover (moves_at plan.now old.now new.now rule task.w g))) }
 {
     let w = task.w;
-    let told = causes_for(plan, old, new, rule, g, task.returning);
+    let told = causes_for(plan, old, new, rule, g, task.mover);
     let row = looks::row_of(plan, new, rule, g, w);
     let a = g as usize * w;
-    let e = a + w;
-    row::apply_row(g, told, &row[..w], &mut table[a..e], space, at)
+    row::apply_row(g, told, &row[..w], &mut table[a..a + w], space, at)
 }
 
 // Writes all moves into the space, in rising group then place, and the new rows over the old. The table is what fill gave before the edit or
@@ -82,7 +89,7 @@ pub fn apply<'a, 'b, 'c>(
     new: &'a Values,
     rule: Rule,
     task: Task,
-    changed: &'a [u8],
+    changed: &'a [bool],
     table: &'b mut [u16],
     space: &'c mut [u8],
 )
@@ -92,17 +99,15 @@ pub fn apply<'a, 'b, 'c>(
     requires table_value { take (task.groups * task.w) table.old ≡ rows_to (places_at plan.now old.now rule task.w) task.groups }
     requires groups_in_bounds { 23 * length (moves_by task.w (places_at plan.now old.now rule task.w) (places_at plan.now new.now rule task.w) task.groups)
         ≤ length space.old }
-    requires by_index { (g : ℕ) → g < task.groups → get_or changed.now g 0 ≡ 0 → moves_at plan.now old.now new.now rule task.w g ≡ [] }
+    requires by_index { (g : ℕ) → g < task.groups → get_or changed.now g false ≡ false → moves_at plan.now old.now new.now rule task.w g ≡ [] }
     ensures { (m m' : Map) → Between plan.now old.now new.now rule task.groups task.w m m'
         → (table.new ≡ over (table_of m') table.old)
-        × (space.new ≡ over (moves_bytes (as_told task.returning (moves_of m m'))) space.old) }
+        × (space.new ≡ over (moves_bytes (as_told task.mover (moves_of m m'))) space.old) }
 {
-    let mut at: usize = 0;
-    let mut g: u32 = 0;
-    while g < task.groups {
-        if changed[g as usize] != 0 {
+    let mut at = 0;
+    for g in 0..task.groups {
+        if changed[g as usize] {
             at = apply_group(plan, old, new, rule, task, g, table, space, at);
         }
-        g += 1;
     }
 }

@@ -32,26 +32,11 @@ pub fn write_moves<'a, 'b, 'c>(
     ensures { Written space.old space.new at result (moves_bytes (changes_to g old.now new.now causes (length old.now))) }
 {
     let mut r = at;
-    let mut p: u32 = 0;
-    let mut i: usize = 0;
-    while i < old.len() {
-        p += 1;
+    for i in 0..old.len() {
+        let p = i as u32 + 1;
         r = put_change(g, p, old[i], new[i], causes[i], space, r);
-        i += 1;
     }
     r
-}
-
-// The new row over the old one.
-fn copy_row(new: &[u16], row: &mut [u16])
-    requires { length new.now ≡ length row.old }
-    ensures { row.new ≡ new.now }
-{
-    let mut i: usize = 0;
-    while i < new.len() {
-        row[i] = new[i];
-        i += 1;
-    }
 }
 
 // Writes the moves of group g, from byte `at` on, and then its new row over the old one; and gives the byte behind the moves.
@@ -69,6 +54,6 @@ pub fn apply_row<'a, 'b, 'c>(
         × Written space.old space.new at result (moves_bytes (changes_to g row.old new.now causes (length row.old))) }
 {
     let r = write_moves(g, causes, row, new, space, at);
-    copy_row(new, row);
+    row.copy_from_slice(new);
     r
 }

@@ -8,3 +8,4 @@ pub mod Progress
 pub mod Row
 pub mod Loaded
 pub mod Lengths
+pub mod Made

@@ -15,7 +15,7 @@ use Rattle.laws.specs.Lists.{every-at}
 use Rattle.laws.specs.Loadable.{Loadable, present-is, slim-is}
 use Rattle.laws.specs.Blocks.{InOrder, takes, selects, emits, length-actions, step-in-order, reached-inside}
 use Rattle.laws.specs.Found.{present-typed, drawn-present}
-use Rattle.hierarchy.specs.Arrays.{bucket_type_in, types_in, view_in, Sound, Flagged}
+use Rattle.hierarchy.specs.Arrays.{bucket_type_in, types_in, view_in, Flagged}
 use Rattle.walk.specs.Searches.{Inward}
 use Rattle.blocks.specs.Actions.{ActionRanged, action-ranged}
 use Rattle.blocks.specs.Standing.{TypesOf}
@@ -69,9 +69,9 @@ pub width_is : (m : Map) → Loadable m → (emitted_to (actions_of m) (length (
 width_is m L = (emitted-all m, (slim-is m L.slim).width)
 
 -- arrays that give the view of a loadable map are ready
-pub ready : (m : Map) → Loadable m → (plan values : List ℕ) → Sound plan → TypesOf m (types_in plan) → view_in plan values ≡ view_of m
+pub ready : (m : Map) → Loadable m → (plan values : List ℕ) → TypesOf m (types_in plan) → view_in plan values ≡ view_of m
     → Flagged plan values → Ready plan values (actions_of m)
-ready m L plan values sound of e f = record { sound = sound; flagged = f; grounded = subst Grounded (sym e) (grounded m L); ruled = ruled m L plan of }
+ready m L plan values of e f = record { flagged = f; grounded = subst Grounded (sym e) (grounded m L); ruled = ruled m L plan of }
 
 -- and what is placed by them is the group's list and its tries
 pub placed-is : (m : Map) (x : ℕ) (v : View) (actions : List Action) (n : ℕ) → v ≡ view_of m → actions ≡ actions_of m → n ≡ length actions

@@ -7,7 +7,7 @@ use native.Mathlib.Omega.{arith}
 use Rattle.std.proofs.Math.Nat.{mul-le-mul_right}
 use Rattle.std.proofs.Math.ListN.{take}
 use Rattle.std.proofs.lemmas.List.{length-map}
-use Rattle.std.proofs.Math.Seq.{paste, paste-suc, take-paste, take-suc-set}
+use Rattle.std.proofs.Math.Seq.{paste, take-paste, take-suc-set}
 use Rattle.definitions.specs.declared.Action.{Action}
 use Rattle.definitions.specs.declared.Action.TheVariants.{Take, Select, Emit, Idle}
 use Rattle.definitions.specs.declared.Mode.{Mode}
@@ -15,12 +15,12 @@ use Rattle.definitions.specs.declared.Step.{Step}
 use Rattle.definitions.specs.Map.{bucket_item, action_of}
 use Rattle.definitions.specs.View.{View}
 use Rattle.hierarchy.specs.declared.Rule.{Rule}
-use Rattle.hierarchy.specs.Arrays.{view_in, actions_in}
+use Rattle.hierarchy.specs.Arrays.{view_in, Sound, actions_in}
 use Rattle.laws.specs.Lists.{get_d-mapped}
 use Rattle.laws.specs.Members.{Each}
 use Rattle.walk.specs.Searches.{Inward}
 use Rattle.blocks.specs.Products.{product_after, added_by, product_to, emitted_to}
-use Rattle.placement.specs.declared.rule.Progress.{Progress}
+use Rattle.placement.specs.declared.progress.Progress.{Progress}
 use Rattle.placement.specs.Bare.{Bare, BareRun, bare_select, bare_selected, bare_act, bare_run_to}
 use Rattle.placement.specs.Ruled.{Keeps, Ready, reached_to}
 use Rattle.placement.specs.Working.{Workable, working-workable}
@@ -28,10 +28,6 @@ use Rattle.placement.specs.Working.{Workable, working-workable}
 -- the lists are the first of the arrays
 abbrev pub run_in : Progress → BareRun
 run_in p = record { items = take p.len p.items; working = take p.len p.working; list = take p.emitted p.list; tries = p.tries }
-
--- and stand within them
-abbrev pub Room : Progress → Type 0
-Room p = (p.len ≤ 16) × (p.emitted ≤ 32)
 
 -- there is room for what action a does, and it can be done
 abbrev pub Doable : Progress → Action → Type 0
@@ -48,7 +44,7 @@ pub record Stepped (p : Progress) (a : Action) (q : Progress) : Type 0 where
 
 -- q is what action a makes of p
 abbrev pub Acted : View → ℕ → Progress → Action → Progress → Type 0
-Acted v x p a q = (run_in q ≡ bare_act v x (run_in p) a) × Room q × Stepped p a q
+Acted v x p a q = (run_in q ≡ bare_act v x (run_in p) a) × Stepped p a q
 
 -- ---- what an action makes of the arrays
 
@@ -72,14 +68,9 @@ module _ (v : View) (x : ℕ) (p : Progress) where
       (ap (take (p.emitted + p.len)) (q ∙ ap (λ (k : ℕ). paste p.list p.emitted p.working k) e)
       ∙ take-paste p.list p.emitted p.working p.len g h)
 
-  pub run-idle : Room p → Acted v x p Idle p
+  pub run-idle : Acted v x p Idle p
   unfolding bare_act product_after added_by
-  run-idle r = (refl, r, record { len = omega arith; emitted = omega arith; tries = omega arith })
-
--- one entry more is copied
-pub paste_more : (d : List ℕ) (at : ℕ) (s : List ℕ) (j : ℕ) (e : List ℕ) → at + j < length d → j < length s → e ≡ paste d at s j
-    → set e (at + j) (get_or s j 0) ≡ paste d at s (j + 1)
-paste_more d at s j e h g q = rw (q, add-one j) (paste-suc d at s j 0 h g)
+  run-idle = (refl, record { len = omega arith; emitted = omega arith; tries = omega arith })
 
 -- ---- a loop over the steps
 
@@ -94,15 +85,14 @@ action-at r k d h l =
 -- p is where the first k actions lead
 pub record Ran (v : View) (x : ℕ) (actions : List Action) (k : ℕ) (p : Progress) : Type 0 where
   pub is : run_in p ≡ bare_run_to v x actions k
-  pub room : Room p
   pub len : p.len ≤ product_to actions k
   pub emitted : p.emitted ≤ emitted_to actions k
   pub tries : p.tries ≤ k * 40800
 
 module _ (v : View) (x : ℕ) (actions : List Action) where
-  pub ran-start : (is ws ls : List ℕ) → Ran v x actions 0 (record { items = is; working = ws; len = 0; list = ls; emitted = 0; tries = 0 })
+  pub ran-start : (p : Progress) → p.len ≡ 0 → p.emitted ≡ 0 → p.tries ≡ 0 → Ran v x actions 0 p
   unfolding bare_run_to
-  ran-start is ws ls = record { is = refl; room = (omega arith, omega arith); len = omega arith; emitted = omega arith; tries = omega arith }
+  ran-start p l e t = record { is = rw (l, e, t) refl; len = omega arith; emitted = omega arith; tries = omega arith }
 
   product-mono : (a : Action) (p q : ℕ) → p ≤ q → product_after p a ≤ product_after q a
   unfolding product_after
@@ -124,14 +114,13 @@ module _ (v : View) (x : ℕ) (actions : List Action) where
       rw (add-one k)
       (record {
         is = t.0 ∙ rw (e, r.is);
-        room = t.1;
-        len = rw (← e) (omega (arith, t.2.len, product-mono a p.len (product_to actions k) r.len));
-        emitted = rw (← e) (omega (arith, t.2.emitted, r.emitted, added-mono a p.len (product_to actions k) r.len));
-        tries = omega (arith, t.2.tries, r.tries);
+        len = rw (← e) (omega (arith, t.1.len, product-mono a p.len (product_to actions k) r.len));
+        emitted = rw (← e) (omega (arith, t.1.emitted, r.emitted, added-mono a p.len (product_to actions k) r.len));
+        tries = omega (arith, t.1.tries, r.tries);
       })
 
 -- where the rule is kept to, the next action can be done
-module _ {plan values : List ℕ} {actions : List Action} (ready : Ready plan values actions) (x : ℕ) where
+module _ {plan values : List ℕ} {actions : List Action} (sound : Sound plan) (ready : Ready plan values actions) (x : ℕ) where
   abbrev v : View
   v = view_in plan values
 
@@ -144,7 +133,7 @@ module _ {plan values : List ℕ} {actions : List Action} (ready : Ready plan va
         q.0,
         q.1,
         omega (arith, mul-le-mul_right n r.len, q.2),
-        working-workable ready x k (run_in p) (omega arith) r.is q.3,
+        working-workable sound ready x k (run_in p) (omega arith) r.is q.3,
         q.4,
       )
       go Emit q = omega (arith, q.0, r.len, r.emitted)

@@ -1,8 +1,7 @@
 -- A row that holds a list, filled up with holes. Assumes nothing.
 use Rattle.std.specs.Prelude.{◌≡◌, refl, List, [], ◌∷◌, ◌++◌, ℕ, zero, suc, ◌+◌, ◌-◌, ◌<◌, ◌≤◌, length, get_or, take, drop, set, replicate}
-use Rattle.std.proofs.Common.{sym, ap, ◌∙◌, append-nil, arith, length-append, drop_of_length-le, take_all}
+use Rattle.std.proofs.Common.{sym, ap, ◌∙◌, append-nil, arith, length-append, drop_of_length-le}
 use Rattle.std.proofs.lemmas.List.{length-replicate, get_or-replicate}
-use Rattle.std.proofs.Math.Seq.{paste}
 use Rattle.definitions.specs.Walk.{hole}
 use Rattle.laws.specs.Lists.{front-more, front-all}
 use Rattle.placement.specs.Bare.{BareRun, filled_up}
@@ -35,17 +34,15 @@ module _ (es t : List ℕ) (h : length es ≤ length t) where
       let k = length-filled (length t) es h in
       q ∙ front-all f t i (omega (arith, k)) ∙ ap (λ (l : List ℕ). f ++ l) (drop_of_length-le t {i = length f} (omega (arith, k))) ∙ append-nil f
 
+holes-behind : (n o : ℕ) → drop n (replicate o hole) ≡ replicate (o - n) hole
+holes-behind zero o = let z : o ≡ o - 0 = omega arith in ap (λ (k : ℕ). replicate k hole) z
+holes-behind (suc n) zero = let z : 0 ≡ 0 - suc n = omega arith in ap (λ (k : ℕ). replicate k hole) z
+holes-behind (suc n) (suc o) = let z : o - n ≡ suc o - suc n = omega arith in holes-behind n o ∙ ap (λ (k : ℕ). replicate k hole) z
+
 -- a list over the front of w holes
-pub paste-holes : (w : ℕ) (es : List ℕ) → paste (replicate w hole) 0 es (length es) ≡ filled_up w es
+pub over_holes : (w : ℕ) (es front : List ℕ) → front ≡ es → front ++ drop (length es) (replicate w hole) ≡ filled_up w es
 unfolding filled_up
-paste-holes w es =
-    let z : 0 + length es ≡ length es = omega arith in
-    rw (z, take_all (length es) es (omega arith), holes-behind (length es) w)
-  where
-    holes-behind : (n o : ℕ) → drop n (replicate o hole) ≡ replicate (o - n) hole
-    holes-behind zero o = let z : o ≡ o - 0 = omega arith in ap (λ (k : ℕ). replicate k hole) z
-    holes-behind (suc n) zero = let z : 0 ≡ 0 - suc n = omega arith in ap (λ (k : ℕ). replicate k hole) z
-    holes-behind (suc n) (suc o) = let z : o - n ≡ suc o - suc n = omega arith in holes-behind n o ∙ ap (λ (k : ℕ). replicate k hole) z
+over_holes w es front e = rw (e, holes-behind (length es) w)
 
 -- a row that holds the list of s holds that of r, which is s, and their tries are the same
 pub row_of : (w : ℕ) (row : List ℕ) (s r : BareRun) → s ≡ r → row ≡ filled_up w s.list → (row ≡ filled_up w r.list) × (s.tries ≡ r.tries)

@@ -1,11 +1,10 @@
 -- What a rule and the arrays must keep to, so that a run stays within the space for it and its list holds devices and holes alone.
-use Rattle.std.specs.Prelude.{◌≡◌, List, ℕ, ◌+◌, ◌*◌, ◌<◌, ◌≤◌, length, get_or}
+use Rattle.std.specs.Prelude.{◌≡◌, List, ℕ, ◌+◌, ◌*◌, ◌<◌, ◌≤◌, length, get_or, Some}
 use Rattle.definitions.specs.declared.Action.{Action}
 use Rattle.definitions.specs.declared.Action.TheVariants.{Take, Select, Emit, Idle}
-use Rattle.definitions.specs.declared.Drawn.TheVariants.{Winner}
 use Rattle.definitions.specs.View.{View}
 use Rattle.definitions.specs.Walk.{draw_at}
-use Rattle.hierarchy.specs.Arrays.{bucket_type_in, view_in, Sound, Flagged}
+use Rattle.hierarchy.specs.Arrays.{bucket_type_in, view_in, Flagged}
 use Rattle.laws.specs.Blocks.{reached}
 use Rattle.walk.specs.Searches.{Inward}
 use Rattle.blocks.specs.Products.{product_to, emitted_to}
@@ -27,11 +26,10 @@ pub record Ruled (plan : List ℕ) (actions : List Action) : Type 0 where
 
 -- a bucket that is drawn has a type above 0, so what is drawn and has type 0 is a device
 pub record Grounded (v : View) : Type 0 where
-  pub above : (x r b i : ℕ) → draw_at v x r b ≡ Winner i → 65536 ≤ i → 0 < v.type i
+  pub above : (x r b i : ℕ) → draw_at v x r b ≡ Some i → 65536 ≤ i → 0 < v.type i
 
--- what a run needs of the arrays and of the rule
+-- what a run needs of the arrays and of the rule, where the plan is sound
 pub record Ready (plan values : List ℕ) (actions : List Action) : Type 0 where
-  pub sound : Sound plan
   pub flagged : Flagged plan values
   pub grounded : Grounded (view_in plan values)
   pub ruled : Ruled plan actions

@@ -49,7 +49,7 @@ select-entries {plan} sound values x mode n t before working =
 
 -- ---- the lists of a run
 
-module _ {plan values : List ℕ} {actions : List Action} (ready : Ready plan values actions) (x : ℕ) where
+module _ {plan values : List ℕ} {actions : List Action} (sound : Sound plan) (ready : Ready plan values actions) (x : ℕ) where
   abbrev v : View
   v = view_in plan values
 
@@ -58,7 +58,7 @@ module _ {plan values : List ℕ} {actions : List Action} (ready : Ready plan va
   Rooted i = ItemRange i × (65536 ≤ i → 0 < type_in plan i)
 
   drawn : (i : ℕ) → DrawnBy v x i → Rooted i
-  drawn i (r, b, d) = (winner-range ready.sound values x r b i d, ready.grounded.above x r b i d)
+  drawn i (r, b, d) = (winner-range sound values x r b i d, ready.grounded.above x r b i d)
 
   taken : (k b : ℕ) → k < length actions → get_or actions k Idle ≡ Take b → Rooted (bucket_item b) × (type_in plan (bucket_item b) ≡ bucket_type_in plan b)
   taken k b h e =

@@ -1,5 +1,6 @@
 // Selects and the rule: a group's list and its tries.
 #![tactic(auto)]
 
+pub mod progress;
 pub mod rule;
 pub mod select;

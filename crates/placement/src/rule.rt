@@ -4,13 +4,14 @@ ghost use Rattle.std.proofs.Math.Seq.{paste};
 ghost use Rattle.definitions.specs.View.{View};
 ghost use Rattle.definitions.specs.Walk.{hole};
 ghost use Rattle.laws.specs.Members.{Each};
-ghost use Rattle.hierarchy.specs.Arrays.{view_in, Sound, Flagged, actions_in};
+ghost use Rattle.hierarchy.specs.Arrays.{view_in, Flagged, actions_in};
 ghost use Rattle.blocks.specs.Products.{emitted_to};
 ghost use Rattle.placement.specs.Bare.{bare_act, bare_run_to, filled_up};
 ghost use Rattle.placement.specs.Working.{Small};
 ghost use Rattle.placement.specs.Ruled.{Ready};
-ghost use Rattle.placement.specs.Progress.{run_in, Room, Doable, Stepped, Ran};
+ghost use Rattle.placement.specs.Progress.{run_in, Doable, Stepped, Ran};
 
+use crate::progress::Progress;
 use crate::select;
 use blocks::actions;
 use definitions::{Action, Mode};
@@ -18,22 +19,10 @@ use hierarchy::{Plan, Rule, Values};
 use item::Item;
 use walk::Wanted;
 
-// The working list (the first `len` entries) with the items that its select holds, the list emitted so far (the first `emitted`), and the
-// tries so far.
-#[derive(Clone, Copy)]
-pub struct Progress {
-    pub items: [u32; 16],
-    pub working: [u32; 16],
-    pub len: usize,
-    pub list: [u32; 32],
-    pub emitted: usize,
-    pub tries: u32,
-}
-
 // "Take sets the working list to one bucket."
 fn take_bucket(p: Progress, b: u32) -> Progress
-    requires { Room p × (b < 256) }
-    ensures { ((v : View) (x : ℕ) → run_in result ≡ bare_act v x (run_in p) (Action.Take b)) × Room result × Stepped p (Action.Take b) result }
+    requires { b < 256 }
+    ensures { ((v : View) (x : ℕ) → run_in result ≡ bare_act v x (run_in p) (Action.Take b)) × Stepped p (Action.Take b) result }
 {
     let i = Item::bucket(b);
     let list = p.list;
@@ -61,9 +50,9 @@ fn selected<'a>(
     n: u32,
     t: u32,
 ) -> Progress
-    requires sound { Sound plan.now × Flagged plan.now values.now }
-    requires room { Room p × (p.tries ≤ 1000000) × Doable p (Action.Select mode n t) }
-    ensures { (run_in result ≡ bare_act (view_in plan.now values.now) x (run_in p) (Action.Select mode n t)) × Room result × Stepped p (Action.Select mode n t) result }
+    requires flagged { Flagged plan.now values.now }
+    requires room { (p.tries ≤ 1000000) × Doable p (Action.Select mode n t) }
+    ensures { (run_in result ≡ bare_act (view_in plan.now values.now) x (run_in p) (Action.Select mode n t)) × Stepped p (Action.Select mode n t) result }
 {
     let list = p.list;
     let working = p.working;
@@ -86,18 +75,14 @@ pub fn append(mut list: [u32; 32], at: usize, working: [u32; 16], len: usize) ->
     requires { (len ≤ 16) × (at + len ≤ 32) }
     ensures { result ≡ paste list at working len }
 {
-    let mut j: usize = 0;
-    while j < len {
-        list[at + j] = working[j];
-        j += 1;
-    }
+    list[at..at + len].copy_from_slice(&working[..len]);
     list
 }
 
 // "Emit appends the working list."
 fn emit(p: Progress) -> Progress
-    requires { Room p × (p.emitted + p.len ≤ 32) }
-    ensures { ((v : View) (x : ℕ) → run_in result ≡ bare_act v x (run_in p) Action.Emit) × Room result × Stepped p Action.Emit result }
+    requires { p.emitted + p.len ≤ 32 }
+    ensures { ((v : View) (x : ℕ) → run_in result ≡ bare_act v x (run_in p) Action.Emit) × Stepped p Action.Emit result }
 {
     let items = p.items;
     let working = p.working;
@@ -115,9 +100,9 @@ fn emit(p: Progress) -> Progress
 
 // One step more.
 pub fn act<'a>(plan: &'a Plan, values: &'a Values, x: u32, p: Progress, a: Action) -> Progress
-    requires sound { Sound plan.now × Flagged plan.now values.now }
-    requires room { Room p × (p.tries ≤ 1000000) × Doable p a }
-    ensures { (run_in result ≡ bare_act (view_in plan.now values.now) x (run_in p) a) × Room result × Stepped p a result }
+    requires flagged { Flagged plan.now values.now }
+    requires room { (p.tries ≤ 1000000) × Doable p a }
+    ensures { (run_in result ≡ bare_act (view_in plan.now values.now) x (run_in p) a) × Stepped p a result }
 {
     match a {
         Action::Take(b) => take_bucket(p, b),
@@ -144,16 +129,14 @@ pub fn start() -> Progress
 // The steps of the rule, for group x.
 pub fn run<'a>(plan: &'a Plan, values: &'a Values, rule: Rule, x: u32) -> Progress
     requires { (rule.len ≤ 16) × Ready plan.now values.now (actions_in rule) }
-    ensures { (run_in result ≡ bare_run_to (view_in plan.now values.now) x (actions_in rule) rule.len) × (result.emitted ≤ 32) × (result.emitted ≤ emitted_to (actions_in rule) rule.len) }
+    ensures { (run_in result ≡ bare_run_to (view_in plan.now values.now) x (actions_in rule) rule.len) × (result.emitted ≤ emitted_to (actions_in rule) rule.len) }
 {
+    // Read of the plan only for the proof, which learns here that the plan is sound.
+    let _ = &plan.words;
     let mut p = start();
-    let steps = rule.steps;
-    let n = rule.len;
-    let mut k: usize = 0;
-    while k < n {
-        let a = actions::action_of(steps[k]);
+    for k in 0..rule.len {
+        let a = actions::action_of(rule.steps[k]);
         p = act(plan, values, x, p, a);
-        k += 1;
     }
     p
 }
@@ -174,10 +157,8 @@ pub fn write_row(list: &[u32], row: &mut [u16])
     requires { Each Small list.now × (length list.now ≤ length row.old) }
     ensures { row.new ≡ filled_up (length row.old) list.now }
 {
-    let mut i: usize = 0;
-    while i < row.len() {
+    for i in 0..row.len() {
         row[i] = place_at(list, i);
-        i += 1;
     }
 }
 
@@ -193,6 +174,8 @@ pub fn place_row<'a, 'b>(
     requires len_in_bounds { emitted_to (actions_in rule) rule.len ≤ length row.old }
     ensures { (row.new ≡ filled_up (length row.old) (bare_run_to (view_in plan.now values.now) x (actions_in rule) rule.len).list) × (result ≡ (bare_run_to (view_in plan.now values.now) x (actions_in rule) rule.len).tries) }
 {
+    // Read of the plan only for the proof, which learns here that the plan is sound.
+    let _ = &plan.words;
     let p = run(plan, values, rule, x);
     let list = p.list;
     let m = p.emitted;

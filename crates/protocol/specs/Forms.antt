@@ -1,12 +1,18 @@
 -- A line that asks for something has two bytes or six. Assumes nothing.
-use Rattle.std.specs.Prelude.{◌≡◌, refl, Bool, true, false, ◌&&◌, List, [], ◌∷◌, ℕ, ◌<◌, eqb, length, get_or, drop}
+use Rattle.std.specs.Prelude.{◌≡◌, refl, Bool, true, false, ◌&&◌, List, [], ◌∷◌, ℕ, ◌<◌, eqb, length, drop}
 use Rattle.std.proofs.Common.{ap, arith, eq-eqb, ne_eqb}
+use Rattle.std.specs.Str.{bytes_eq}
 use Rattle.definitions.specs.Lists.{every, same}
 use Rattle.definitions.specs.Frames.{is_digit, value}
+use Rattle.laws.specs.Chains.{eq-same}
 use Rattle.protocol.specs.declared.asked.Program.{Program}
 use Rattle.protocol.specs.declared.asked.Program.TheVariants.{Fill, Operate}
 use Rattle.protocol.specs.declared.asked.Asked.TheVariants.{Store, Return, Nothing}
 use Rattle.protocol.specs.Asked.{named_by, named_of, asked_of}
+
+-- what `==` says of two lines (the lemma, by a name that a line of the source can cite)
+pub bytes_are : (xs ys : List ℕ) → bytes_eq xs ys ≡ same xs ys
+bytes_are = eq-same
 
 -- a call has two bytes
 pub other : (ys : List ℕ) (a b : ℕ) → (length ys ≡ 2 → ⊥) → same ys (a ∷ b ∷ []) ≡ false
@@ -24,17 +30,6 @@ other (y ∷ z ∷ x ∷ ys) a b h = both (eqb y a) (eqb z b)
     both true true = refl
     both true false = refl
     both false r = refl
-
-pub call-two : (ys : List ℕ) (a b : ℕ) → length ys ≡ 2 → same ys (a ∷ b ∷ []) ≡ (eqb (get_or ys 0 0) a && eqb (get_or ys 1 0) b)
-unfolding same
-call-two [] a b h = absurd (omega (arith, h))
-call-two (y ∷ []) a b h = absurd (omega (arith, h))
-call-two (y ∷ z ∷ []) a b h = ap (λ (q : Bool). eqb y a && q) (last (eqb z b))
-  where
-    last : (q : Bool) → (q && true) ≡ q
-    last true = refl
-    last false = refl
-call-two (y ∷ z ∷ x ∷ ys) a b h = absurd (omega (arith, h))
 
 -- ---- a line with a name
 

@@ -1,8 +1,6 @@
 // What a line behind the map asks for beside an edit. Program `fill` knows edits alone; program `operate`, an operator's day, also writes the map,
 // tells the table, stores states and returns to them.
-ghost use Rattle.std.specs.Prelude.{◌≡◌, [], ◌∷◌, length, drop};
-ghost use Rattle.definitions.specs.Lists.{same};
-ghost use Rattle.definitions.specs.Frames.{value};
+ghost use Rattle.std.specs.Prelude.{◌≡◌};
 ghost use Rattle.protocol.specs.Asked.{named_of, asked_of};
 
 use frames::digits;
@@ -23,24 +21,6 @@ pub enum Asked {
     Nothing,
 }
 
-// Whether a line is `2` and one letter.
-fn is_call(line: &[u8], letter: u8) -> bool
-    ensures { result ≡ same line.now (50 ∷ letter ∷ []) }
-{
-    if line.len() != 2 {
-        return false;
-    }
-    line[0] == 50 && line[1] == letter
-}
-
-// The name behind the kind of a line of six bytes.
-fn name_in(line: &[u8]) -> u16
-    requires { length line.now ≡ 6 }
-    ensures { result ≡ value 4 (drop 2 line.now) }
-{
-    digits::field(line, 2, 4) as u16
-}
-
 // A store or a return: six digits, its kind and a name.
 #[tactic(auto, using(crate::specs::Forms::by_kind, crate::specs::Forms::stores, crate::specs::Forms::returns_to))]
 fn named(line: &[u8]) -> Asked
@@ -53,29 +33,29 @@ fn named(line: &[u8]) -> Asked
         return Asked::Nothing;
     }
     let kind = digits::field(line, 0, 2);
-    let name = name_in(line);
-    if kind == 0x23 {
-        return Asked::Store(name);
+    let name = digits::field(line, 2, 4) as u16;
+    match kind {
+        0x23 => Asked::Store(name),
+        0x24 => Asked::Return(name),
+        _ => Asked::Nothing,
     }
-    if kind == 0x24 {
-        return Asked::Return(name);
-    }
-    Asked::Nothing
 }
 
 // The lines of program `operate`.
+#[tactic(auto, using(crate::specs::Forms::bytes_are), unfolding(crate::specs::Asked::asked_of))]
 fn operates(line: &[u8]) -> Asked
     ensures { result ≡ asked_of Program.Operate line.now }
 {
-    if is_call(line, b'c') {
-        return Asked::Frames;
+    if line == b"2c".as_slice() {
+        Asked::Frames
+    } else if line == b"2d".as_slice() {
+        Asked::Rows
+    } else {
+        named(line)
     }
-    if is_call(line, b'd') {
-        return Asked::Rows;
-    }
-    named(line)
 }
 
+#[tactic(auto, unfolding(crate::specs::Asked::asked_of))]
 pub fn asked_of(p: Program, line: &[u8]) -> Asked
     ensures { result ≡ asked_of p line.now }
 {

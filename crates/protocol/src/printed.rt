@@ -6,25 +6,13 @@ ghost use Rattle.protocol.specs.Lines.{row_line, refusal_line};
 
 use frames::digits;
 
-fn wide(x: u16) -> u32
-    ensures { result ≡ x }
-{
-    x as u32
-}
-
 // The places of a row, one behind the other.
 fn put_places(row: &[u16], out: &mut [u8])
     requires { (length out.old ≡ 4 * length row.now) × (length row.now ≤ 32) }
     ensures { out.new ≡ joined (map (hex 4) row.now) }
 {
-    let mut i: usize = 0;
-    let mut at: usize = 0;
-    while i < row.len() {
-        let place = wide(row[i]);
-        let e = at + 4;
-        digits::put_field(&mut out[at..e], place);
-        at = e;
-        i += 1;
+    for (i, place) in row.iter().enumerate() {
+        digits::put_field(&mut out[4 * i..4 * i + 4], u32::from(*place));
     }
 }
 

@@ -11,18 +11,21 @@ pub fn groups_ranged(g: u32) -> bool
     (1 <= g) & (g <= 65536)
 }
 
+#[tactic(auto, unfolding(definitions::specs::Load::device_ranged))]
 pub fn device_ranged(d: Device) -> bool
     ensures { result ≡ device_ranged d }
 {
     (d.number < Item::DEVICES) & (d.weight <= 65535) & (d.acceptance <= 65536)
 }
 
+#[tactic(auto, unfolding(definitions::specs::Load::bucket_ranged))]
 pub fn bucket_ranged(b: Bucket) -> bool
     ensures { result ≡ bucket_ranged b }
 {
     (b.number < Item::BUCKETS) & ((1 <= b.ty) & (b.ty <= 255)) & ((1 <= b.kind) & (b.kind <= 2))
 }
 
+#[tactic(auto, unfolding(definitions::specs::Load::link_ranged))]
 pub fn link_ranged(l: Link) -> bool
     ensures { result ≡ link_ranged l }
 {
@@ -31,6 +34,7 @@ pub fn link_ranged(l: Link) -> bool
     (l.bucket < Item::BUCKETS) & (device | bucket)
 }
 
+#[tactic(auto, unfolding(definitions::specs::Load::take_ranged))]
 fn take_ranged(s: Step) -> bool
     ensures { result ≡ take_ranged s }
 {
@@ -38,6 +42,7 @@ fn take_ranged(s: Step) -> bool
 }
 
 // "Question 5 reads step 5 as it reads step 3, type 0 included."
+#[tactic(auto, unfolding(definitions::specs::Load::select_ranged))]
 fn select_ranged(s: Step) -> bool
     ensures { result ≡ select_ranged s }
 {
@@ -46,18 +51,21 @@ fn select_ranged(s: Step) -> bool
     step & count & (s.ty <= 254) & (s.bucket == 0)
 }
 
+#[tactic(auto, unfolding(definitions::specs::Load::emit_ranged))]
 fn emit_ranged(s: Step) -> bool
     ensures { result ≡ emit_ranged s }
 {
     (s.step == 4) & (s.count == 0) & (s.ty == 0) & (s.bucket == 0)
 }
 
+#[tactic(auto, unfolding(definitions::specs::Load::step_ranged))]
 pub fn step_ranged(s: Step) -> bool
     ensures { result ≡ step_ranged s }
 {
     take_ranged(s) | select_ranged(s) | emit_ranged(s)
 }
 
+#[tactic(auto, unfolding(definitions::specs::Load::link_below))]
 pub fn link_below(k: Link, l: Link) -> bool
     ensures { result ≡ link_below k l }
 {

@@ -1,8 +1,7 @@
 -- Document 01, "Samples": "Each later line, an unended last one too, is one edit." What a line does to the map, the table and the states, and what
 -- it prints. Program `operate` is an operator's day on the same map and table: its lines are edits as in `fill`, and four calls more.
-use Rattle.std.specs.Prelude.{Bool, true, false, cond, List, [], ◌∷◌, ◌++◌, ℕ, zero, suc, ◌*◌, eqb, take}
+use Rattle.std.specs.Prelude.{Bool, true, false, cond, List, [], ◌∷◌, ◌++◌, ℕ, zero, suc, ◌*◌, eqb, take, Option, None, Some}
 use Rattle.definitions.specs.declared.Change.{Change}
-use Rattle.definitions.specs.declared.Change.TheVariants.{Acceptance, Weight, Malformed}
 use Rattle.definitions.specs.Map.{map_of}
 use Rattle.definitions.specs.Rule.{width_of}
 use Rattle.definitions.specs.Edit.{change_of}
@@ -49,10 +48,9 @@ rows_said frames table = or_refusal (fill_number frames table) (row_lines (map_o
 
 -- ---- what a line does
 
-unfoldable pub is_edit : Change → Bool
-is_edit (Acceptance d a) = true
-is_edit (Weight d w) = true
-is_edit Malformed = false
+unfoldable pub is_edit : Option Change → Bool
+is_edit (Some c) = true
+is_edit None = false
 
 -- a line has ended, and its text is printed
 abbrev pub printing : Site → List ℕ → Session

@@ -1,14 +1,10 @@
 -- What is kept of a line decides what the line does: the longest that does anything is an edit, of 14 bytes, and 15 are kept. Assumes nothing.
-use Rattle.std.specs.Prelude.{◌≡◌, refl, Bool, true, false, cond, List, [], ◌∷◌, ◌++◌, ℕ, suc, ◌+◌, ◌<◌, ◌≤◌, length, take, set}
-use Rattle.std.proofs.Common.{sym, ap, subst, ◌∙◌, arith, add-one, length-take, length-append, length-set, take_all, take-suc-set, length-take-le, eq-eqb, ne_eqb}
+use Rattle.std.specs.Prelude.{◌≡◌, refl, Bool, true, false, cond, List, [], ◌∷◌, ◌++◌, ℕ, zero, suc, ◌<◌, length, take, None}
+use Rattle.std.proofs.Common.{sym, ap, subst, ◌∙◌, arith, take_all, length-take-le, eq-eqb, ne_eqb}
 use Rattle.std.proofs.Math.Decide.{dec_lt}
-use Rattle.std.proofs.lemmas.List.{take-append-le}
-use Rattle.definitions.specs.declared.Change.TheVariants.{Malformed}
 use Rattle.definitions.specs.Edit.{change_of}
 use Rattle.definitions.specs.Calls.{EditAnswer, case_of, edit_of}
-use Rattle.report.specs.declared.edits.Line.{Line}
 use Rattle.report.specs.declared.edits.Said.{Said}
-use Rattle.report.specs.declared.edits.Turn.{Turn}
 use Rattle.protocol.specs.declared.asked.Program.{Program}
 use Rattle.protocol.specs.declared.asked.Asked.{Asked}
 use Rattle.protocol.specs.declared.asked.Asked.TheVariants.{Frames, Rows, Store, Return, Nothing}
@@ -21,14 +17,9 @@ use Rattle.report.specs.Says.{Says}
 abbrev pub most_kept : ℕ
 most_kept = 15
 
-abbrev pub Short : Line → Type 0
-Short l = l.count ≤ most_kept
-
 -- the line l keeps the front of the bytes xs
-pub record Keeps (l : Line) (xs : List ℕ) : Type 0 where
-  pub kept : take l.count l.bytes ≡ take most_kept xs
-  pub count : l.count ≡ length (take most_kept xs)
-  pub long : length l.bytes ≡ most_kept
+abbrev pub Keeps : List ℕ → List ℕ → Type 0
+Keeps l xs = l ≡ take most_kept xs
 
 -- the site here is as the session says, and so is what is printed
 pub record Answers (r : Said) (here : Site) (space : List ℕ) (s : Session) : Type 0 where
@@ -36,34 +27,24 @@ pub record Answers (r : Said) (here : Site) (space : List ℕ) (s : Session) : T
   pub says : Says r here.table space s.printed
 
 -- and so is the line under way
-pub record Stands (t : Turn) (here : Site) (space : List ℕ) (s : Session) : Type 0 where
-  pub answers : Answers t.said here space s
-  pub line : Keeps t.line s.line
+pub record Stands (r : Said) (l : List ℕ) (here : Site) (space : List ℕ) (s : Session) : Type 0 where
+  pub answers : Answers r here space s
+  pub line : Keeps l s.line
 
 -- ---- a line grows
 
--- it keeps all that it can already
-pub keeps-full : (l : Line) (b : ℕ) → l.count ≡ most_kept → (xs : List ℕ) → Keeps l xs → Keeps l (xs ++ (b ∷ []))
-keeps-full l b e xs k =
-    let h : take most_kept (xs ++ (b ∷ [])) ≡ take most_kept xs = take-append-le most_kept xs (b ∷ []) (omega (arith, length-take most_kept xs, k.count)) in
-    record { kept = k.kept ∙ sym h; count = k.count ∙ ap length (sym h); long = k.long }
+take_front : (n : ℕ) (xs ys : List ℕ) → take n (take n xs ++ ys) ≡ take n (xs ++ ys)
+take_front zero xs ys = refl
+take_front (suc n) [] ys = refl
+take_front (suc n) (x ∷ xs) ys = ap (λ (l : List ℕ). x ∷ l) (take_front n xs ys)
 
--- it has room for one more
-pub keeps-more : (l : Line) (b : ℕ) → l.count < most_kept → (xs : List ℕ) → Keeps l xs
-    → Keeps (record { bytes = set l.bytes l.count b; count = l.count + 1 }) (xs ++ (b ∷ []))
-keeps-more l b h xs k =
-    let short : length xs < most_kept = omega (arith, length-take most_kept xs, k.count) in
-    let own : take most_kept xs ≡ xs = take_all most_kept xs (omega arith) in
-    let all : take most_kept (xs ++ (b ∷ [])) ≡ xs ++ (b ∷ []) = take_all most_kept (xs ++ (b ∷ [])) (omega (arith, length-append xs (b ∷ []))) in
-    record {
-      kept = rw add-one (take-suc-set l.bytes l.count b (omega (arith, k.long))) ∙ ap (λ (ys : List ℕ). ys ++ (b ∷ [])) (k.kept ∙ own) ∙ sym all;
-      count = omega (arith, k.count, ap length own, ap length all, length-append xs (b ∷ []));
-      long = length-set l.bytes l.count b ∙ k.long;
-    }
+-- what is kept of all bytes is kept of those that were kept and the bytes ys
+pub keeps-more : (l xs ys : List ℕ) → Keeps l xs → Keeps (take most_kept (l ++ ys)) (xs ++ ys)
+keeps-more l xs ys k = rw k (take_front most_kept xs ys)
 
 -- ---- the bytes kept ask for what the line does
 
-pub malformed : (ys : List ℕ) → (length ys ≡ 14 → ⊥) → change_of ys ≡ Malformed
+pub malformed : (ys : List ℕ) → (length ys ≡ 14 → ⊥) → change_of ys ≡ None
 unfolding change_of
 malformed ys h = rw (ne_eqb (length ys) 14 h)
 
@@ -80,11 +61,11 @@ line-change : (p : Program) (s : Site) (d e space : List ℕ) → change_of d �
 unfolding line_of edit_of case_of
 line-change p s d e space h k = rw (h, k)
 
-pub line_kept : (p : Program) (l : Line) (xs : List ℕ) → Keeps l xs → (s : Site) (space : List ℕ) → line_of p s (take l.count l.bytes) space ≡ line_of p s xs space
+pub line_kept : (p : Program) (l xs : List ℕ) → Keeps l xs → (s : Site) (space : List ℕ) → line_of p s l space ≡ line_of p s xs space
 line_kept p l xs k s space =
     line-change p s _ xs space
-    (ap change_of k.kept ∙ same_kept change_of Malformed (λ ys n. malformed ys (λ e. omega (arith, e, n))) xs)
-    (ap (asked_of p) k.kept ∙ same_kept (asked_of p) Nothing (λ ys n. asked-long p ys (omega (arith, n))) xs)
+    (ap change_of k ∙ same_kept change_of None (λ ys n. malformed ys (λ e. omega (arith, e, n))) xs)
+    (ap (asked_of p) k ∙ same_kept (asked_of p) Nothing (λ ys n. asked-long p ys (omega (arith, n))) xs)
 
 -- ---- what a line answers
 
@@ -130,13 +111,13 @@ pub byte-other : (p : Program) (s : Site) (l : List ℕ) (b : ℕ) (space : List
 unfolding byte_of
 byte-other p s l b space h = rw (ne_eqb b 10 h)
 
-pub keeps-none : (l : Line) (xs : List ℕ) → Keeps l xs → l.count ≡ 0 → xs ≡ []
+-- a line that keeps no byte has none
+pub keeps-none : (l xs : List ℕ) → Keeps l xs → length l ≡ 0 → xs ≡ []
 keeps-none l [] k e = refl
-keeps-none l (x ∷ xs) k e = absurd (omega (arith, k.count, e))
+keeps-none l (x ∷ xs) k e = absurd (let z : length l ≡ suc (length (take 14 xs)) = ap length k in omega (arith, z, e))
 
-pub keeps-empty : (l : Line) (xs : List ℕ) → Keeps l xs → xs ≡ [] → l.count ≡ 0
-keeps-empty l [] k e = k.count
-keeps-empty l (x ∷ xs) k e = absurd (let z : suc (length xs) ≡ 0 = ap length e in omega arith)
+pub keeps-empty : (l xs : List ℕ) → Keeps l xs → xs ≡ [] → length l ≡ 0
+keeps-empty l xs k e = ap length (k ∙ ap (take most_kept) e)
 
 pub end_none : (p : Program) (s : Site) (l space : List ℕ) → l ≡ [] → end_of p s l space ≡ session s []
 unfolding end_of

@@ -9,9 +9,8 @@ use Rattle.definitions.specs.Map.{map_of}
 use Rattle.definitions.specs.Writing.{map_text}
 use Rattle.definitions.specs.Calls.{room_for_frames, room_for_moves, EditCase, case_of, edit_number, edit_by, edit_answer, edit_of, ReturnCase, return_case, return_number, return_by, return_answer, return_of, write_number, write_by, write_of}
 use Rattle.moves.specs.Changes.{length-bytes}
-use Rattle.report.specs.declared.edits.Line.{Line}
 use Rattle.report.specs.declared.edits.Said.{Said}
-use Rattle.report.specs.declared.edits.Turn.{Turn}
+use Rattle.report.specs.declared.edits.Said.TheVariants.{Front}
 use Rattle.protocol.specs.declared.asked.Program.{Program}
 use Rattle.protocol.specs.declared.asked.Asked.{Asked}
 use Rattle.protocol.specs.declared.asked.Asked.TheVariants.{Frames, Rows, Store, Return, Nothing}
@@ -129,51 +128,50 @@ pub lengthens-none : Lengthens []
 unfolding bytes_of
 lengthens-none p space s = ap (λ (l : List ℕ). record { site = s.site; line = l; printed = s.printed }) (sym (append-nil s.line))
 
-pub lengthens-more : (bs : List ℕ) (b : ℕ) → Lengthens bs → (b ≡ 10 → ⊥) → Lengthens (bs ++ (b ∷ []))
+lengthens-more : (b : ℕ) (bs : List ℕ) → (b ≡ 10 → ⊥) → Lengthens bs → Lengthens (b ∷ bs)
 unfolding bytes_of
-lengthens-more bs b h n p space s =
-    bytes_cut p space s bs (b ∷ [])
-    ∙ rw (h p space s, byte-other p s.site (s.line ++ bs) b space n, append_assoc s.line bs (b ∷ []), append-nil s.printed) refl
+lengthens-more b bs n h p space s =
+    rw (byte-other p s.site s.line b space n, h p space (behind s.printed (session s.site (s.line ++ (b ∷ [])))), append_assoc s.line (b ∷ []) bs, append-nil s.printed) refl
 
--- one more of the bytes read
-pub lengthens-next : (read : List ℕ) (i : ℕ) → i < length read → (get_or read i 0 ≡ 10 → ⊥) → Lengthens (take i read) → Lengthens (take (i + 1) read)
-lengthens-next read i h n l = rw (add-one, take-suc read i 0 h) (lengthens-more (take i read) (get_or read i 0) l n)
-
-pub keeps-next : (l : Line) (xs read : List ℕ) (i : ℕ) → i < length read → Keeps l ((xs ++ take i read) ++ (get_or read i 0 ∷ [])) → Keeps l (xs ++ take (i + 1) read)
-keeps-next l xs read i h k = rw (add-one, take-suc read i 0 h, ← append_assoc xs (take i read) (get_or read i 0 ∷ [])) k
+-- the first n bytes, where none of them is the byte 10
+pub lengthens-front : (read : List ℕ) (n : ℕ) → ((k : ℕ) → k < n → get_or read k 0 ≡ 10 → ⊥) → Lengthens (take n read)
+lengthens-front read zero h = lengthens-none
+lengthens-front [] (suc n) h = lengthens-none
+lengthens-front (b ∷ bs) (suc n) h = lengthens-more b (take n bs) (h 0 (omega arith)) (lengthens-front bs n (λ k i. h (suc k) (omega (arith, i))))
 
 -- ---- the bytes of one turn
 
 -- no line has ended
-pub run_none : (p : Program) (l : Line) (s : Site) (space xs bs : List ℕ) → Lengthens bs → Keeps l (xs ++ bs)
-    → Stands (record { line = l; said = record { bytes = 0; groups = 0; width = 0 } }) s space (bytes_of p space (session s xs) bs)
+pub run_none : (p : Program) (l : List ℕ) (s : Site) (space xs bs : List ℕ) → Lengthens bs → Keeps l (xs ++ bs)
+    → Stands (Front 0) l s space (bytes_of p space (session s xs) bs)
 run_none p l s space xs bs h k =
     rw (h p space (session s xs)) (record { answers = record { site-is = refl; says = says_none s.table space }; line = k })
 
 -- behind them comes the byte at n
-pub run-byte : (p : Program) (r : Turn) (s : Site) (space xs read : List ℕ) (n : ℕ) (s' : Site) (space' : List ℕ) → n < length read → Lengthens (take n read)
-    → Stands r s' space' (byte_of p s (xs ++ take n read) (get_or read n 0) space)
-    → Stands r s' space' (bytes_of p space (session s xs) (take (n + 1) read))
+pub run-byte : (p : Program) (r : Said) (l : List ℕ) (s : Site) (space xs read : List ℕ) (n : ℕ) (s' : Site) (space' : List ℕ) → n < length read
+    → Lengthens (take n read)
+    → Stands r l s' space' (byte_of p s (xs ++ take n read) (get_or read n 0) space)
+    → Stands r l s' space' (bytes_of p space (session s xs) (take (n + 1) read))
 unfolding bytes_of
-run-byte p r s space xs read n s' space' i h k =
+run-byte p r l s space xs read n s' space' i h k =
     rw (add-one, take-suc read n 0 i, bytes_cut p space (session s xs) (take n read) (get_or read n 0 ∷ []), h p space (session s xs)) k
 
 -- ---- read after read
 
 -- the site and the line under way are as the session says
-pub record Led (l : Line) (here : Site) (s : Session) : Type 0 where
+pub record Led (l : List ℕ) (here : Site) (s : Session) : Type 0 where
   pub site-is : here ≡ s.site
   pub line : Keeps l s.line
 
-pub stands-led : (r : Turn) (here : Site) (space : List ℕ) (s : Session) → Stands r here space s → Led r.line here s
-stands-led r here space s h = record { site-is = h.answers.site-is; line = h.line }
+pub stands-led : (r : Said) (l : List ℕ) (here : Site) (space : List ℕ) (s : Session) → Stands r l here space s → Led l here s
+stands-led r l here space s h = record { site-is = h.answers.site-is; line = h.line }
 
-pub led-none : (p : Program) (l : Line) (s : Site) (space xs : List ℕ) → Keeps l xs → Led l s (bytes_of p space (session s xs) [])
+pub led-none : (p : Program) (l : List ℕ) (s : Site) (space xs : List ℕ) → Keeps l xs → Led l s (bytes_of p space (session s xs) [])
 unfolding bytes_of
 led-none p l s space xs k = record { site-is = refl; line = k }
 
 -- first the bytes us, then the bytes bs, with another space of the same length
-pub led-more : (p : Program) (space₀ space : List ℕ) → length space ≡ length space₀ → (s : Session) (us bs : List ℕ) (l l' : Line) (here here' : Site)
+pub led-more : (p : Program) (space₀ space : List ℕ) → length space ≡ length space₀ → (s : Session) (us bs : List ℕ) (l l' : List ℕ) (here here' : Site)
     → Led l here (bytes_of p space₀ s us)
     → Led l' here' (bytes_of p space (session here (bytes_of p space₀ s us).line) bs)
     → Led l' here' (bytes_of p space₀ s (us ++ bs))
@@ -196,7 +194,7 @@ end-room p s (b ∷ l) z z' h = line-room p s (b ∷ l) z z' h
 abbrev pub Ended : Program → List ℕ → Site → List ℕ → Site → Type 0
 Ended p space s bs here = let e = bytes_of p space (session s []) bs in here ≡ (end_of p e.site e.line space).site
 
-pub ended : (p : Program) (space₀ space : List ℕ) → length space ≡ length space₀ → (s : Site) (bs : List ℕ) (l : Line) (here : Site)
+pub ended : (p : Program) (space₀ space : List ℕ) → length space ≡ length space₀ → (s : Site) (bs : List ℕ) (l : List ℕ) (here : Site)
     → Led l here (bytes_of p space₀ (session s []) bs) → (r : Said) (here' : Site) (space' : List ℕ)
     → ((xs : List ℕ) → Keeps l xs → Answers r here' space' (end_of p here xs space)) → Ended p space₀ s bs here'
 ended p space₀ space h s bs l here a r here' space' b =

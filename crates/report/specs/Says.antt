@@ -1,7 +1,7 @@
 -- What is printed for a line, and of each call that it is what the call answers. Assumes nothing.
 use Rattle.std.specs.Prelude.{◌≡◌, Bool, true, false, List, [], ◌∷◌, ◌++◌, take}
 use Rattle.std.proofs.Math.Path.{refl, ap}
-use Rattle.std.proofs.Common.{sym, subst, ◌∙◌, append-nil, arith, length-append}
+use Rattle.std.proofs.Common.{sym, subst, ◌∙◌, arith, length-append}
 use Prim.Native.Nat.{ℕ, zero, suc, ◌*◌, ◌<◌, ◌≤◌}
 use Rattle.std.proofs.Math.Decide.{ℕ_discrete}
 use borrow.Author.Tests.{le-leb, lt-leb, leb-true}
@@ -16,32 +16,29 @@ use Rattle.laws.specs.Loadable.{ranged-is, slim-is}
 use Rattle.text.specs.Loading.{loaded}
 use Rattle.engine.specs.Calls.{whole-no, whole-yes, sizes-load, sizes-0}
 use Rattle.report.specs.declared.edits.Said.{Said}
+use Rattle.report.specs.declared.edits.Said.TheVariants.{Refused, Front, Rows}
 use Rattle.protocol.specs.Lines.{refusal_line, row_lines}
 use Rattle.report.specs.Edits.{states_at_start, or_refusal, frames_said, rows_said}
 
--- what is printed: bytes at the front of the space, then rows of the table
+-- what is printed
 abbrev pub shown : Said → List ℕ → List ℕ → List ℕ
-shown r table space = take r.bytes space ++ row_lines r.groups 0 r.width table
+shown (Refused n) table space = refusal_line n
+shown (Front n) table space = take n space
+shown (Rows g w) table space = row_lines g 0 w table
 
--- it lies in them, and a row is no wider than a line takes
-pub record Within (r : Said) (table space : List ℕ) : Type 0 where
-  pub front : r.bytes ≤ length space
-  pub rows : r.groups * r.width ≤ length table
-  pub slim : r.width ≤ 32
+-- it lies in the space or in the table, and a row is no wider than a line takes
+abbrev pub Within : Said → List ℕ → List ℕ → Type 0
+Within (Refused n) table space = Unit {0}
+Within (Front n) table space = n ≤ length space
+Within (Rows g w) table space = (g * w ≤ length table) × (w ≤ 32)
 
 pub record Says (r : Said) (table space text : List ℕ) : Type 0 where
   pub text-is : shown r table space ≡ text
   pub within : Within r table space
 
--- bytes alone, of no rows
-pub says-front : (n : ℕ) (table space text : List ℕ) → take n space ≡ text → n ≤ length space → Says (record { bytes = n; groups = 0; width = 0 }) table space text
-unfolding row_lines
-says-front n table space text p w =
-    record { text-is = append-nil (take n space) ∙ p; within = record { front = w; rows = omega arith; slim = omega arith } }
-
 -- nothing
-pub says_none : (table space : List ℕ) → Says (record { bytes = 0; groups = 0; width = 0 }) table space []
-says_none table space = says-front 0 table space [] refl (omega arith)
+pub says_none : (table space : List ℕ) → Says (Front 0) table space []
+says_none table space = record { text-is = refl; within = omega arith }
 
 -- what is written at the front lies within the space
 pub front-room : (xs ys : List ℕ) (n : ℕ) → length xs ≡ n → n ≤ length (xs ++ ys)
@@ -101,9 +98,9 @@ return-room f t ws x s a i = subst (Room (length s)) (sym i) (go (return_number 
 
 -- and where they have, they are printed: n bytes for m moves
 pub moves-done : (k m n : ℕ) (table space : List ℕ) → k ≡ 0 → n ≡ m * 23 → m * 23 ≤ length space
-    → Says (record { bytes = n; groups = 0; width = 0 }) table space (or_refusal k (take (m * 23) space))
+    → Says (Front n) table space (or_refusal k (take (m * 23) space))
 moves-done k m n table space z q l =
-    says-front n table space _ (ap (λ (j : ℕ). take j space) q ∙ sym (or-done k (take (m * 23) space) z)) (omega (arith, q, l))
+    record { text-is = ap (λ (j : ℕ). take j space) q ∙ sym (or-done k (take (m * 23) space) z); within = omega (arith, q, l) }
 
 -- ---- the map as frames
 
@@ -112,9 +109,9 @@ module _ (f s : List ℕ) (a : WriteAnswer) (i : a ≡ write_of f s) where
   unfolding frames_said
   frames-refused z = ap frames_said (sym i) ∙ or-refused a.number (take a.bytes a.space) z
 
-  pub frames-done : a.number ≡ 0 → (t : List ℕ) → Says (record { bytes = a.bytes; groups = 0; width = 0 }) t a.space (frames_said (write_of f s))
+  pub frames-done : a.number ≡ 0 → (t : List ℕ) → Says (Front a.bytes) t a.space (frames_said (write_of f s))
   unfolding frames_said write_of write_by
-  frames-done z t = says-front a.bytes t a.space _ (sym (ap frames_said (sym i) ∙ or-done a.number (take a.bytes a.space) z)) room
+  frames-done z t = record { text-is = sym (ap frames_said (sym i) ∙ or-done a.number (take a.bytes a.space) z); within = room }
     where
       written : (k : ℕ) → (write_by (map_of f) s k).number ≡ 0 → (write_by (map_of f) s k).bytes ≤ length (write_by (map_of f) s k).space
       written zero z = front-room (map_text (map_of f)) _ _ refl
@@ -188,9 +185,5 @@ module _ (f t : List ℕ) (a : SizesAnswer) (z : Sized f a) (g w : ℕ) (p : g �
   rows-0 l =
       rw (whole-yes f z.loads, le-leb ((map_of f).groups * width_of (map_of f)) (length t) (omega (arith, counted, l)), q, z.groups-are, z.width_is) refl
 
-  pub rows-done : (space : List ℕ) → g * w ≤ length t → Says (record { bytes = 0; groups = a.groups; width = w }) t space (rows_said f t)
-  rows-done space l =
-      record {
-        text-is = sym (rows-0 l);
-        within = record { front = omega arith; rows = rw (← p) l; slim = omega (arith, q, z.slim) };
-      }
+  pub rows-done : (space : List ℕ) → g * w ≤ length t → Says (Rows a.groups w) t space (rows_said f t)
+  rows-done space l = record { text-is = sym (rows-0 l); within = (rw (← p) l, omega (arith, q, z.slim)) }

@@ -1,138 +1,56 @@
 // The lines behind the map: "Each later line, an unended last one too, is one edit." Of program `operate` a line may be another call too.
-ghost use Rattle.std.specs.Prelude.{◌≡◌, List, [], ◌∷◌, ◌++◌, ℕ, ◌*◌, ◌<◌, ◌≤◌, length, take};
+// Map, table and states are lent each by itself: a struct that held the three `&mut` would have to say in each contract that it keeps each of them.
+ghost use Rattle.std.specs.Prelude.{◌≡◌, List, [], ℕ, ◌*◌, ◌<◌, ◌≤◌, ◌≢◌, length, slice_index, take, EachIndex, MatchOption};
 ghost use Rattle.definitions.specs.Calls.{edit_of, store_of, return_of, write_of};
-ghost use Rattle.protocol.specs.Lines.{refusal_line};
 ghost use Rattle.report.specs.Edits.{site_of, or_refusal, frames_said, rows_said, is_edit, edited, order_of, line_of, session, byte_of, bytes_of, end_of};
 ghost use Rattle.report.specs.Says.{Says, Within};
-ghost use Rattle.report.specs.Kept.{Short, Keeps, Answers, Stands};
-ghost use Rattle.report.specs.Reads.{Lengthens};
+ghost use Rattle.report.specs.Kept.{Keeps, Answers, Stands};
 
+use crate::line::Line;
 use definitions::Change;
 use engine::edit::Edited;
+use protocol::asked;
 use protocol::asked::{Asked, Program};
-use protocol::{asked, printed};
 
-// How many bytes of a line are kept at most: one more than the longest line that does anything has, so that a longer one stays of no form.
-const KEPT: usize = 15;
-
-// A line under way.
+// What is to be printed: a refusal, so many bytes at the front of the space, or the rows of so many groups of the table, each so wide.
 #[derive(Clone, Copy)]
-pub struct Line {
-    pub bytes: [u8; KEPT],
-    pub count: usize,
+pub enum Said {
+    Refused(u32),
+    Front(usize),
+    Rows(u32, usize),
 }
 
-// What is to be printed: bytes at the front of the space, then the rows of so many groups of the table, each so wide.
-#[derive(Clone, Copy)]
-pub struct Said {
-    pub bytes: usize,
-    pub groups: u32,
-    pub width: usize,
-}
-
-// A line as a byte leaves it, and what is to be printed.
-#[derive(Clone, Copy)]
-pub struct Turn {
-    pub line: Line,
-    pub said: Said,
-}
-
-// A line with the bytes that were added to it, and how many these are.
-#[derive(Clone, Copy)]
-pub struct Added {
-    pub line: Line,
-    pub used: usize,
-}
-
-// A turn, and how many of the bytes read it took.
+// What is to be printed, and how many of the bytes read led to it.
 #[derive(Clone, Copy)]
 pub struct Run {
-    pub turn: Turn,
+    pub said: Said,
     pub used: usize,
 }
 
-// A line that has no byte yet.
-pub fn no_line() -> Line
-    ensures { Keeps result [] }
-{
-    Line {
-        bytes: [0; KEPT],
-        count: 0,
-    }
-}
-
-// A line with one byte more.
-fn longer(l: Line, b: u8) -> Line
-    requires { Short l }
-    ensures { Short result × ((xs : List ℕ) → Keeps l xs → Keeps result (xs ++ (b ∷ []))) }
-{
-    let n = l.count;
-    if n == KEPT {
-        return l;
-    }
-    let mut bytes = l.bytes;
-    bytes[n] = b;
-    Line {
-        bytes: bytes,
-        count: n + 1,
-    }
-}
-
-fn is_edit(c: Change) -> bool
+fn is_edit(c: Option<Change>) -> bool
     ensures { result ≡ is_edit c }
 {
-    match c {
-        Change::Acceptance(d, v) => true,
-        Change::Weight(d, v) => true,
-        Change::Malformed => false,
-    }
+    c.is_some()
 }
 
-fn wide(x: u32) -> usize
-    ensures { result ≡ x }
-{
-    x as usize
-}
-
-// Bytes of the space, and no rows.
-fn front(bytes: usize) -> Said
-    ensures { result ≡ record { bytes = bytes; groups = 0; width = 0 } }
-{
-    Said {
-        bytes,
-        groups: 0,
-        width: 0,
-    }
-}
-
-// Writes a refusal over the front of the space.
-fn refuse(number: u32, space: &mut [u8]) -> Said
-    requires { 5 ≤ length space.old }
-    ensures { (table : List ℕ) → Says result table space.new (refusal_line number) }
-{
-    printed::refusal_line(number, &mut space[..5]);
-    front(5)
-}
-
-// What an edit or a return prints, behind its call: the moves that it has written over the front of the space, or its refusal.
-fn tell(e: Edited, space: &mut [u8]) -> Said
-    requires { (5 ≤ length space.old) × (e.number ≡ 0 → e.moves * 23 ≤ length space.old) }
-    ensures { (table : List ℕ) → Says result table space.new (or_refusal e.number (take (e.moves * 23) space.old)) }
+// What an edit or a return prints: the moves that it has written over the front of the space, or its refusal.
+fn tell(e: Edited) -> Said
+    ensures { (table space : List ℕ) → (e.number ≡ 0 → e.moves * 23 ≤ length space)
+        → Says result table space (or_refusal e.number (take (e.moves * 23) space)) }
 {
     if e.number != 0 {
-        return refuse(e.number, space);
+        return Said::Refused(e.number);
     }
-    front(wide(e.moves) * 23)
+    Said::Front(e.moves as usize * 23)
 }
 
 // Makes an edit. It leaves the states.
 fn make_edit(map: &mut [u8], table: &mut [u16], line: &[u8], space: &mut [u8]) -> Said
-    requires { 5 ≤ length space.old }
     ensures { (states : List ℕ) → Answers result (site_of map.new table.new states) space.new
         (edited states (edit_of map.old table.old line.now space.old)) }
 {
     let e = engine::edit::edit(map, table, line, space);
-    tell(e, space)
+    tell(e)
 }
 
 // Returns to the state of a name. It only reads the states.
@@ -143,57 +61,49 @@ fn make_return(
     name: u16,
     space: &mut [u8],
 ) -> Said
-    requires { 5 ≤ length space.old }
     ensures { Answers result (site_of map.new table.new states.now) space.new
         (edited states.now (return_of map.old table.old states.now name space.old)) }
 {
     let e = engine::back::return_to(map, table, states, name, space);
-    tell(e, space)
+    tell(e)
 }
 
 // Stores a state, which has nothing to print but a refusal.
-fn make_store(map: &[u8], states: &mut [u32; 24586], name: u16, space: &mut [u8]) -> Said
-    requires { 5 ≤ length space.old }
+fn make_store(map: &[u8], states: &mut [u32; 24586], name: u16) -> Said
     ensures { (states.new ≡ (store_of map.now states.old name).states)
-        × ((table : List ℕ) → Says result table space.new (or_refusal (store_of map.now states.old name).number [])) }
+        × ((table space : List ℕ) → Says result table space (or_refusal (store_of map.now states.old name).number [])) }
 {
     let number = engine::store::store(map, states, name);
     if number != 0 {
-        return refuse(number, space);
+        return Said::Refused(number);
     }
-    front(0)
+    Said::Front(0)
 }
 
 // The map as frames, over the front of the space.
 fn say_frames(map: &[u8], space: &mut [u8]) -> Said
-    requires { 5 ≤ length space.old }
     ensures { (table : List ℕ) → Says result table space.new (frames_said (write_of map.now space.old)) }
 {
     let w = engine::write::write(map, space);
     if w.number != 0 {
-        return refuse(w.number, space);
+        return Said::Refused(w.number);
     }
-    front(w.bytes)
+    Said::Front(w.bytes)
 }
 
 // The table as rows, which are printed row by row.
-fn say_rows(map: &[u8], table: &[u16], space: &mut [u8]) -> Said
-    requires { 5 ≤ length space.old }
-    ensures { Says result table.now space.new (rows_said map.now table.now) }
+fn say_rows(map: &[u8], table: &[u16]) -> Said
+    ensures { (space : List ℕ) → Says result table.now space (rows_said map.now table.now) }
 {
     let s = engine::load::sizes_of(map);
     if s.number != 0 {
-        return refuse(14, space);
+        return Said::Refused(14);
     }
-    let width = wide(s.places);
-    if table.len() < wide(s.groups) * width {
-        return refuse(16, space);
+    let width = s.places as usize;
+    if table.len() < s.groups as usize * width {
+        return Said::Refused(16);
     }
-    Said {
-        bytes: 0,
-        groups: s.groups,
-        width,
-    }
+    Said::Rows(s.groups, width)
 }
 
 // Does what a line that is no edit asks for.
@@ -204,20 +114,19 @@ fn serve(
     states: &mut [u32; 24586],
     space: &mut [u8],
 ) -> Said
-    requires { 5 ≤ length space.old }
     ensures { Answers result (site_of map.new table.new states.new) space.new
         (order_of a (site_of map.old table.old states.old) space.old) }
 {
     match a {
         Asked::Frames => say_frames(map, space),
-        Asked::Rows => say_rows(map, table, space),
-        Asked::Store(name) => make_store(map, states, name, space),
+        Asked::Rows => say_rows(map, table),
+        Asked::Store(name) => make_store(map, states, name),
         Asked::Return(name) => make_return(map, table, states, name, space),
-        Asked::Nothing => refuse(18, space),
+        Asked::Nothing => Said::Refused(18),
     }
 }
 
-// Makes the edit of a line or does what else it asks for; what it prints is over the front of the space, or rows of the table.
+// A line has ended: makes its edit, or does what else it asks for.
 fn answer(
     p: Program,
     map: &mut [u8],
@@ -226,33 +135,13 @@ fn answer(
     line: &[u8],
     space: &mut [u8],
 ) -> Said
-    requires { 5 ≤ length space.old }
-    ensures { Answers result (site_of map.new table.new states.new) space.new
-        (line_of p (site_of map.old table.old states.old) line.now space.old) }
+    ensures { (xs : List ℕ) → Keeps line.now xs → Answers result (site_of map.new table.new states.new) space.new
+        (line_of p (site_of map.old table.old states.old) xs space.old) }
 {
     if is_edit(edit_frame::change_of(line)) {
         return make_edit(map, table, line, space);
     }
     serve(asked::asked_of(p, line), map, table, states, space)
-}
-
-// A line has ended, and is answered by what was kept of it.
-fn on_line(
-    p: Program,
-    map: &mut [u8],
-    table: &mut [u16],
-    states: &mut [u32; 24586],
-    l: Line,
-    space: &mut [u8],
-) -> Said
-    requires { (5 ≤ length space.old) × Short l }
-    ensures { Within result table.new space.new × ((xs : List ℕ) → Keeps l xs
-        → Answers result (site_of map.new table.new states.new) space.new
-        (line_of p (site_of map.old table.old states.old) xs space.old)) }
-{
-    let bytes = l.bytes;
-    let n = l.count;
-    answer(p, map, table, states, &bytes[..n], space)
 }
 
 // One byte more of the lines.
@@ -261,44 +150,29 @@ pub fn on_byte(
     map: &mut [u8],
     table: &mut [u16],
     states: &mut [u32; 24586],
-    l: Line,
+    line: &mut Line,
     b: u8,
     space: &mut [u8],
-) -> Turn
-    requires { (5 ≤ length space.old) × Short l }
-    ensures { Short result.line × Within result.said table.new space.new × ((xs : List ℕ) → Keeps l xs
-        → Stands result (site_of map.new table.new states.new) space.new
+) -> Said
+    ensures { Within result table.new space.new × ((xs : List ℕ) → Keeps line.old xs
+        → Stands result line.new (site_of map.new table.new states.new) space.new
         (byte_of p (site_of map.old table.old states.old) xs b space.old)) }
 {
     if b != 10 {
-        return Turn {
-            line: longer(l, b),
-            said: front(0),
-        };
+        line.extend(&[b]);
+        return Said::Front(0);
     }
-    let said = on_line(p, map, table, states, l, space);
-    Turn {
-        line: no_line(),
-        said,
-    }
+    let said = answer(p, map, table, states, line.bytes(), space);
+    line.clear();
+    said
 }
 
-// The bytes read are added to the line, up to the first byte 10.
-fn add(l: Line, read: &[u8]) -> Added
-    requires { Short l }
-    ensures { Short result.line × (result.used ≤ length read.now) × Lengthens (take result.used read.now)
-        × ((xs : List ℕ) → Keeps l xs → Keeps result.line (xs ++ take result.used read.now)) }
+// Where the first line of these bytes ends.
+fn line_end(read: &[u8]) -> Option<usize>
+    ensures { MatchOption result (EachIndex read.now (λ k. slice_index read.now k ≢ 10))
+        (λ n. (n < length read.now) × ((k : ℕ) → k < n → slice_index read.now k ≢ 10)) }
 {
-    let mut line = l;
-    let mut i: usize = 0;
-    while i < read.len() {
-        if read[i] == 10 {
-            return Added { line, used: i };
-        }
-        line = longer(line, read[i]);
-        i += 1;
-    }
-    Added { line, used: i }
+    read.iter().position(|b| *b == 10)
 }
 
 // The bytes read, up to the first line that ends: what it prints is in the space or in the table, which the next line needs.
@@ -307,29 +181,29 @@ pub fn on_bytes(
     map: &mut [u8],
     table: &mut [u16],
     states: &mut [u32; 24586],
-    l: Line,
+    line: &mut Line,
     read: &[u8],
     space: &mut [u8],
 ) -> Run
-    requires { (5 ≤ length space.old) × Short l × (0 < length read.now) }
-    ensures { Short result.turn.line × Within result.turn.said table.new space.new × (0 < result.used) × (result.used ≤ length read.now)
-        × ((xs : List ℕ) → Keeps l xs → Stands result.turn (site_of map.new table.new states.new) space.new
+    requires { 0 < length read.now }
+    ensures { Within result.said table.new space.new × (0 < result.used) × (result.used ≤ length read.now)
+        × ((xs : List ℕ) → Keeps line.old xs → Stands result.said line.new (site_of map.new table.new states.new) space.new
         (bytes_of p space.old (session (site_of map.old table.old states.old) xs) (take result.used read.now))) }
 {
-    let added = add(l, read);
-    let n = added.used;
-    let line = added.line;
-    if n == read.len() {
-        return Run {
-            turn: Turn {
-                line,
-                said: front(0),
-            },
-            used: n,
-        };
+    match line_end(read) {
+        None => {
+            line.extend(read);
+            Run {
+                said: Said::Front(0),
+                used: read.len(),
+            }
+        }
+        Some(n) => {
+            line.extend(&read[..n]);
+            let said = on_byte(p, map, table, states, line, read[n], space);
+            Run { said, used: n + 1 }
+        }
     }
-    let turn = on_byte(p, map, table, states, line, read[n], space);
-    Run { turn, used: n + 1 }
 }
 
 // The end of the lines.
@@ -338,16 +212,16 @@ pub fn on_end(
     map: &mut [u8],
     table: &mut [u16],
     states: &mut [u32; 24586],
-    l: Line,
+    line: &Line,
     space: &mut [u8],
 ) -> Said
-    requires { (5 ≤ length space.old) × Short l }
-    ensures { Within result table.new space.new × ((xs : List ℕ) → Keeps l xs
+    ensures { Within result table.new space.new × ((xs : List ℕ) → Keeps line.now xs
         → Answers result (site_of map.new table.new states.new) space.new
         (end_of p (site_of map.old table.old states.old) xs space.old)) }
 {
-    if l.count == 0 {
-        return front(0);
+    let bytes = line.bytes();
+    if bytes.is_empty() {
+        return Said::Front(0);
     }
-    on_line(p, map, table, states, l, space)
+    answer(p, map, table, states, bytes, space)
 }

@@ -13,41 +13,25 @@ ghost use Rattle.editing.specs.Paired.{Paired};
 ghost use Rattle.returning.specs.Returning.{Spelt, returned_to};
 
 use compile::steps;
-use definitions::Change;
+use definitions::Device;
 use editing::Pair;
+use frames::records::Record;
 use states::values;
-use text::Shape;
+use text::{Shape, Text};
 
 // The arrays of the map as it is and with the drives of a state, which are spelt from word a on.
-pub fn pair_in<'a, 'b>(map: &'a [u8], s: Shape, states: &'b [u32], a: usize) -> Pair
-    requires { (load_number map.now ≡ 0) × (s ≡ shape_of (frames_in map.now)) × Spelt (map_of map.now) states.now a }
-    ensures { Paired (map_of map.now) (returned_to (map_of map.now) states.now a) result }
+pub fn pair_in(text: &Text, states: &[u32], a: usize) -> Pair
+    requires { (load_number text.now ≡ 0) × Spelt (map_of text.now) states.now a }
+    ensures { Paired (map_of text.now) (returned_to (map_of text.now) states.now a) result }
 {
-    let plan = compile::plan_of(map, s);
-    let rule = steps::rule_of(map, s);
-    let through = steps::goes_through(rule);
-    let before = compile::weigh(map, s, Change::Malformed, &plan, through);
-    let old = before.values;
-    let after = compile::weigh_state(states, a, s.devices, &plan, through);
-    let new = after.values;
-    let loads = after.loads;
-    Pair {
-        plan: plan,
-        old: old,
-        new: new,
-        loads: loads,
-        rule: rule,
-    }
+    let before = compile::compile(text, None);
+    let n = Device::count(text);
+    let after = compile::weigh_state(states, a, n, &before.plan, steps::goes_through(before.rule));
+    Pair::new(&before, &after)
 }
 
 // Puts the values of a state into the text, and the weights of the buckets.
-pub fn put_state<'a, 'b, 'c>(
-    map: &'a mut [u8],
-    s: Shape,
-    states: &'b [u32],
-    a: usize,
-    loads: &'c [u32; 256],
-)
+pub fn put_state(map: &mut [u8], s: Shape, states: &[u32], a: usize, loads: &[u32; 256])
     requires map_value { (load_number map.old ≡ 0) × (s ≡ shape_of (frames_in map.old)) × Spelt (map_of map.old) states.now a }
     requires tabled { Tabled loads.now 256 (bucket_weight (returned_to (map_of map.old) states.now a)) }
     ensures { map.new ≡ map_text (returned_to (map_of map.old) states.now a) }

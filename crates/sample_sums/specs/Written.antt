@@ -1,5 +1,5 @@
 -- Document 02, "Cabinet weights on paper", on a map of four levels: question 23, and what an edit writes.
-use Rattle.std.specs.Prelude.{◌≡◌, refl, List, [], ◌∷◌, ◌++◌, ℕ}
+use Rattle.std.specs.Prelude.{◌≡◌, refl, List, [], ◌∷◌, ◌++◌, ℕ, Some}
 use Rattle.definitions.specs.declared.Change.TheVariants.{Acceptance, Weight}
 use Rattle.definitions.specs.Frames.{hex}
 use Rattle.definitions.specs.Map.{map_of}
@@ -61,11 +61,11 @@ abbrev pub N : List ℕ
 N = map_with (line 22 0x0100000000000500010000) 15 8 8 4 4
 
 -- drive 0 at weight 9: the cabinet, the room and the site above it are brought up to date, and nothing else is
-pub weight-written : map_text (put (map_of N) (Weight 0 9)) ≡ map_with (line 22 0x0100000000000900010000) 19 12 12 4 4
+pub weight-written : map_text (put (map_of N) (Some (Weight 0 9))) ≡ map_with (line 22 0x0100000000000900010000) 19 12 12 4 4
 unfolding computing
 weight-written = refl
 
 -- drive 0 at acceptance 0
-pub acceptance-written : map_text (put (map_of N) (Acceptance 0 0)) ≡ map_with (line 22 0x0100000000000500000000) 15 8 8 4 4
+pub acceptance-written : map_text (put (map_of N) (Some (Acceptance 0 0))) ≡ map_with (line 22 0x0100000000000500000000) 15 8 8 4 4
 unfolding computing
 acceptance-written = refl

@@ -1,5 +1,5 @@
 -- Document 01, "Samples": the starred samples, shown of the definitions as one table under one theorem.
-use Rattle.std.specs.Prelude.{◌≡◌, refl, Bool, cond, List, [], ◌∷◌, ◌++◌, map, ℕ, ◌^◌, take}
+use Rattle.std.specs.Prelude.{◌≡◌, refl, Bool, cond, List, [], ◌∷◌, ◌++◌, map, ℕ, ◌^◌, take, Some}
 use Rattle.definitions.specs.declared.Mix.{Mix}
 use Rattle.definitions.specs.declared.Change.TheVariants.{Acceptance, Weight}
 use Rattle.definitions.specs.Hash.{rows, three, mix_steps}
@@ -68,8 +68,8 @@ samples =
     -- "M, group 0: 0000, ffff; tries 51."
     is (place0 M) (0 ∷ 2 ∷ 51 ∷ 0x0000 ∷ 0xffff ∷ [])
     -- "Acceptance 0 or weight 0: two holes, tries 100."
-    ∷ is (place0 (map_text (put (map_of M) (Acceptance 0 0)))) (0 ∷ 2 ∷ 100 ∷ 0xffff ∷ 0xffff ∷ [])
-    ∷ is (place0 (map_text (put (map_of M) (Weight 0 0)))) (0 ∷ 2 ∷ 100 ∷ 0xffff ∷ 0xffff ∷ [])
+    ∷ is (place0 (map_text (put (map_of M) (Some (Acceptance 0 0))))) (0 ∷ 2 ∷ 100 ∷ 0xffff ∷ 0xffff ∷ [])
+    ∷ is (place0 (map_text (put (map_of M) (Some (Weight 0 0))))) (0 ∷ 2 ∷ 100 ∷ 0xffff ∷ 0xffff ∷ [])
     -- "L(1) = 0, L(2) = 1048576, L(3) = 1661953, L(2^32) = 33554432."
     ∷ is (map L (1 ∷ 2 ∷ 3 ∷ 2 ^ 32 ∷ [])) (0 ∷ 1048576 ∷ 1661953 ∷ 33554432 ∷ [])
     -- "Cost 33554432, weight 1: key 2^55."

@@ -3,3 +3,9 @@
 
 pub mod values;
 pub mod words;
+
+// How many words hold the named states, with room for eight of 1,024 drives each.
+pub const WORDS: usize = 24586;
+
+// Those words.
+pub type States = [u32; WORDS];

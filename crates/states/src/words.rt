@@ -6,33 +6,31 @@ ghost use Rattle.definitions.specs.Lists.{every};
 ghost use Rattle.definitions.specs.Map.{Map, map_of};
 ghost use Rattle.definitions.specs.Load.{device_ranged};
 ghost use Rattle.definitions.specs.States.{drive_words, drives_in, states_in, states_of, numbers_of, names_of, stated, stored};
-ghost use Rattle.text.specs.RoundTrip.{Framed};
 ghost use Rattle.states.specs.Words.{drives_fit, fits_by, state_in, place_of, good_states};
 
-use frames::records;
+use crate::States;
+use definitions::Device;
+use frames::records::Record;
+use text::Text;
 
-// The numbers of the map's n drives, from the front of the array on.
-fn numbers_of(t: &[u8], n: usize) -> [u32; 1024]
-    requires { Framed t.now × (n ≡ length (map_of t.now).devices) × (n ≤ 1024) }
-    ensures { take n result ≡ numbers_of (map_of t.now).devices }
+// The numbers of the map's drives, from the front of the array on.
+fn numbers_of(text: &Text) -> [u32; 1024]
+    requires { length (map_of text.now).devices ≤ 1024 }
+    ensures { take (length (map_of text.now).devices) result ≡ numbers_of (map_of text.now).devices }
 {
     let mut own = [0u32; 1024];
-    let mut i: usize = 0;
-    while i < n {
-        own[i] = records::device_number(t, i);
-        i += 1;
+    for i in 0..Device::count(text) {
+        own[i] = Device::read(text, i).number;
     }
     own
 }
 
 // The drives from word a on are those of the map's numbers, which are own, and have values that load takes.
-fn drives_fit<'a, 'b>(own: &'a [u32], s: &'b [u32], a: usize) -> bool
+fn drives_fit(own: &[u32], s: &[u32], a: usize) -> bool
     requires { (a + 3 * length own.now ≤ length s.now) × (length s.now ≤ 24586) × (every (λ (x : ℕ). leb x 1023) own.now ≡ true) }
     ensures { result ≡ drives_fit own.now (drives_in (length own.now) (drop a s.now)) }
 {
-    let n = own.len();
-    let mut i: usize = 0;
-    while i < n {
+    for i in 0..own.len() {
         let w = a + 3 * i;
         if own[i] != s[w] {
             return false;
@@ -43,13 +41,12 @@ fn drives_fit<'a, 'b>(own: &'a [u32], s: &'b [u32], a: usize) -> bool
         if 65536 < s[w + 2] {
             return false;
         }
-        i += 1;
     }
     true
 }
 
 // The state from word a on fits the map: its name has 16 bits, and its drives are such.
-fn state_fits<'a, 'b>(own: &'a [u32], s: &'b [u32], a: usize) -> bool
+fn state_fits(own: &[u32], s: &[u32], a: usize) -> bool
     requires { (a + 1 + 3 * length own.now ≤ length s.now) × (length s.now ≤ 24586) × (every (λ (x : ℕ). leb x 1023) own.now ≡ true) }
     ensures { result ≡ fits_by own.now (state_in (length own.now) s.now a) }
 {
@@ -64,25 +61,21 @@ fn place_from(s: &[u32], n: usize, k: usize, c: usize, x: u32) -> usize
     requires { (2 + c * (1 + 3 * n) ≤ length s.now) × (length s.now ≤ 24586) × (k ≤ c) }
     ensures { result ≡ k + place_of x (names_of (drop k (states_in n c (drop 2 s.now)))) }
 {
-    let mut j = k;
-    while j < c {
-        let a = 2 + j * (1 + 3 * n);
-        if s[a] == x {
+    for j in k..c {
+        if s[2 + j * (1 + 3 * n)] == x {
             return j;
         }
-        j += 1;
     }
-    j
+    c
 }
 
 // Each of c states fits the map of these numbers, and no name stands twice.
-fn good_states<'a, 'b>(own: &'a [u32], s: &'b [u32], c: usize) -> bool
+fn good_states(own: &[u32], s: &[u32], c: usize) -> bool
     requires { (2 + c * (1 + 3 * length own.now) ≤ length s.now) × (length s.now ≤ 24586) × (every (λ (x : ℕ). leb x 1023) own.now ≡ true) }
     ensures { result ≡ good_states own.now (states_in (length own.now) c (drop 2 s.now)) }
 {
     let n = own.len();
-    let mut k: usize = 0;
-    while k < c {
+    for k in 0..c {
         let a = 2 + k * (1 + 3 * n);
         if !state_fits(own, s, a) {
             return false;
@@ -91,17 +84,17 @@ fn good_states<'a, 'b>(own: &'a [u32], s: &'b [u32], c: usize) -> bool
         if later < c {
             return false;
         }
-        k += 1;
     }
     true
 }
 
-// Question 14 of the states of a map with n drives. Where there are none, nothing is asked of the other words.
-pub fn states_good<'a, 'b>(t: &'a [u8], n: usize, states: &'b [u32; 24586]) -> bool
-    requires framed { Framed t.now × (n ≡ length (map_of t.now).devices) × (n ≤ 1024) }
-    requires t_value { every device_ranged (map_of t.now).devices ≡ true }
-    ensures { result ≡ stated (map_of t.now) states.now }
+// Question 14 of the states of a map. Where there are none, nothing is asked of the other words.
+pub fn states_good(text: &Text, states: &States) -> bool
+    requires few { length (map_of text.now).devices ≤ 1024 }
+    requires ranged { every device_ranged (map_of text.now).devices ≡ true }
+    ensures { result ≡ stated (map_of text.now) states.now }
 {
+    let n = Device::count(text);
     let c = states[0];
     if 8 < c {
         return false;
@@ -112,12 +105,13 @@ pub fn states_good<'a, 'b>(t: &'a [u8], n: usize, states: &'b [u32; 24586]) -> b
     if states[1] != n as u32 {
         return false;
     }
-    let own = numbers_of(t, n);
+    let own = numbers_of(text);
     good_states(&own[..n], states, c as usize)
 }
 
+// A place and no Option: behind all is where a new state is stored.
 // Which state has a name, and behind all where none has it. The states are such as question 14 takes of a map with n drives.
-pub fn find(states: &[u32; 24586], n: usize, name: u32) -> usize
+pub fn find(states: &States, n: usize, name: u32) -> usize
     requires n_bound { n ≤ 1024 }
     requires devices_len { (m : Map) × (length m.devices ≡ n) × (stated m states.now ≡ true) }
     ensures { result ≡ place_of name (names_of (states_of states.now)) }
@@ -127,31 +121,29 @@ pub fn find(states: &[u32; 24586], n: usize, name: u32) -> usize
 }
 
 // The state of the map's drives, from word a on.
-fn put_state<'a, 'b>(t: &'a [u8], n: usize, s: &'b mut [u32], a: usize, name: u32)
-    requires framed { Framed t.now × (n ≡ length (map_of t.now).devices) }
-    requires n_in_bounds { (a + 1 + 3 * n ≤ length s.old) × (length s.old ≤ 24586) }
-    ensures { s.new ≡ paste s.old a (name ∷ drive_words (map_of t.now).devices) (1 + 3 * n) }
+fn put_state(text: &Text, s: &mut [u32], a: usize, name: u32)
+    requires { (a + 1 + 3 * length (map_of text.now).devices ≤ length s.old) × (length s.old ≤ 24586) }
+    ensures { s.new ≡ paste s.old a (name ∷ drive_words (map_of text.now).devices) (1 + 3 * length (map_of text.now).devices) }
 {
     s[a] = name;
-    let mut i: usize = 0;
-    while i < n {
-        let d = records::device(t, i);
+    for i in 0..Device::count(text) {
+        let d = Device::read(text, i);
         let w = a + 1 + 3 * i;
         s[w] = d.number;
         s[w + 1] = d.weight;
         s[w + 2] = d.acceptance;
-        i += 1;
     }
 }
 
 // Stores the map's drives as state k, under a name: that of the state that has it, or behind all.
-pub fn store<'a, 'b>(t: &'a [u8], n: usize, states: &'b mut [u32; 24586], k: usize, name: u32)
-    requires framed { Framed t.now × (n ≡ length (map_of t.now).devices) × (n ≤ 1024) }
-    requires states_value { (stated (map_of t.now) states.old ≡ true) × (k ≡ place_of name (names_of (states_of states.old))) × (k < 8) }
-    ensures { states.new ≡ stored (map_of t.now) name states.old }
+pub fn store(text: &Text, states: &mut States, k: usize, name: u32)
+    requires few { length (map_of text.now).devices ≤ 1024 }
+    requires states_value { (stated (map_of text.now) states.old ≡ true) × (k ≡ place_of name (names_of (states_of states.old))) × (k < 8) }
+    ensures { states.new ≡ stored (map_of text.now) name states.old }
 {
+    let n = Device::count(text);
     let c = states[0];
-    put_state(t, n, states, 2 + k * (1 + 3 * n), name);
+    put_state(text, states, 2 + k * (1 + 3 * n), name);
     states[1] = n as u32;
     if k == c as usize {
         states[0] = c + 1;

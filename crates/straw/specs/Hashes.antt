@@ -1,5 +1,5 @@
 -- Cells of a list written one after another, and what stands in those written so far. Assumes nothing.
-use Rattle.std.specs.Prelude.{◌≡◌, refl, List, ◌++◌, ℕ, ◌+◌, ◌-◌, ◌<◌, ◌≤◌, length, get_or, take, drop, set}
+use Rattle.std.specs.Prelude.{◌≡◌, refl, List, ℕ, ◌+◌, ◌-◌, ◌<◌, ◌≤◌, length, get_or, take, drop, set}
 use Rattle.std.proofs.Common.{sym, ◌∙◌, subst, add-one, arith, length-set, length-drop, get_or-set_same, get_or-set_other, get_or-append-add, length-take-le, get_or-take}
 use Rattle.std.proofs.Math.Decide.{dec_lt}
 use borrow.Rule.Slice.PartMut.{mid_of, put_mid, same_len_mid}

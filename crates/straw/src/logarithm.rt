@@ -37,20 +37,14 @@ pub fn log(u: u64) -> u64
     for i in 0..20usize {
         s = next_digit(s);
     }
-    ((e as u64) << 20) + s.d
-}
-
-pub fn wide(x: u32) -> u64
-    ensures { result ≡ x }
-{
-    x as u64
+    (u64::from(e) << 20) + s.d
 }
 
 // The cost of a child whose hash is h: u is h + 1.
 pub fn cost(h: u32) -> u32
     ensures { (result ≡ cost (h + 1)) × (result ≤ 32 * 2 ^ 20) }
 {
-    let u = wide(h) + 1;
+    let u = u64::from(h) + 1;
     let c = (32 << 20) - log(u);
     c as u32
 }
@@ -60,5 +54,5 @@ pub fn key(c: u32, k: u32) -> u64
     requires { 0 < k }
     ensures { result ≡ key c k }
 {
-    (wide(c) << 30) / wide(k)
+    (u64::from(c) << 30) / u64::from(k)
 }

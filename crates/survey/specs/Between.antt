@@ -1,6 +1,6 @@
 -- The two maps of an edit beside the plan, the values and the rule that the code runs by: what the code finds is what the definitions say
 -- of them. Assumes nothing.
-use Rattle.std.specs.Prelude.{◌≡◌, true, take}
+use Rattle.std.specs.Prelude.{◌≡◌, true, false, Option, None, Some, take}
 use Rattle.std.proofs.Math.Path.{refl, sym, ap, ap₂}
 use Rattle.std.proofs.Common.{◌∙◌, arith}
 use mathlib.Core.List.{List, ◌++◌}
@@ -15,6 +15,7 @@ use Rattle.definitions.specs.Rule.{run_to, width_of, padded, placed_by, placed_o
 use Rattle.definitions.specs.Table.{runs_to, runs_of, row_in, table_in, table_of}
 use Rattle.definitions.specs.Edit.{row_moves, moves_to, moves_in, moves_of}
 use Rattle.definitions.specs.Calls.{not_first_n, independent, fresh}
+use Rattle.laws.specs.Lists.{is_same}
 use Rattle.laws.specs.Loadable.{Loadable, ranged-is}
 use Rattle.hierarchy.specs.declared.Rule.{Rule}
 use Rattle.hierarchy.specs.Arrays.{view_in, actions_in}
@@ -123,12 +124,13 @@ module _ {plan old new : List ℕ} {rule : Rule} {groups w : ℕ} (m m' : Map) (
   unfolding independent
   selects = rw (← B.actions) B.only
 
--- what a survey answers of the two maps
-pub record Answers (m m' : Map) (table : List ℕ) (s : Findings) : Type 0 where
-  pub fresh : s.fresh ≡ fresh m (runs_of m) table
-  pub moves : s.fresh ≡ true → s.moves ≡ length (moves_of m m')
+-- what a survey answers of the two maps: whether the table is what fill gives, and then how many places move
+abbrev pub Answers : Map → Map → List ℕ → Option Findings → Type 0
+Answers m m' table None = fresh m (runs_of m) table ≡ false
+Answers m m' table (Some s) = (fresh m (runs_of m) table ≡ true) × (s.moves ≡ length (moves_of m m'))
 
-pub answers : {plan old new : List ℕ} {rule : Rule} {groups w : ℕ} {table : List ℕ} {s : Findings}
+pub answers : {plan old new : List ℕ} {rule : Rule} {groups w : ℕ} (table : List ℕ) (s : Option Findings)
     → Surveyed w (places_at plan old rule w) (places_at plan new rule w) groups table s → (m m' : Map) → Between plan old new rule groups w m m'
     → Answers m m' table s
-answers {table = table} f m m' B = record { fresh = f.fresh ∙ fresh-is m m' B table; moves = λ e. f.moves e ∙ ap length (moves-are m m' B) }
+answers table None f m m' B = sym (fresh-is m m' B table) ∙ f
+answers table (Some s) f m m' B = (sym (fresh-is m m' B table) ∙ is_same _ _ f.rows, f.moves ∙ ap length (moves-are m m' B))

@@ -1,8 +1,8 @@
 -- The places of a group by the code's run, and what a look at a group finds. Assumes nothing.
-use Rattle.std.specs.Prelude.{◌≡◌, refl, Bool, true, false, not, cond, List, [], ◌∷◌, ◌++◌, ℕ, zero, suc, ◌-◌, ◌≤◌, take, drop, replicate}
+use Rattle.std.specs.Prelude.{◌≡◌, refl, Bool, true, false, Option, None, Some, List, [], ◌∷◌, ◌++◌, ℕ, zero, suc, ◌-◌, ◌≤◌, take, drop, replicate}
+use Rattle.std.specs.Bool.{then_some}
 use Rattle.std.proofs.Math.Path.{sym}
-use Rattle.std.proofs.Common.{ap, ap₂, ◌∙◌, subst, arith, take_at, length-take-le}
-use Rattle.std.proofs.lemmas.Bool.{not-true, not-false}
+use Rattle.std.proofs.Common.{ap, ap₂, ◌∙◌, arith, take_at, length-take-le}
 use Rattle.std.proofs.Math.ListN.{length}
 use Rattle.std.proofs.lemmas.List.{length-map}
 use Rattle.definitions.specs.declared.Move.{Move}
@@ -19,8 +19,6 @@ use Rattle.placement.specs.Ruled.{Ready}
 use Rattle.placement.specs.Bare.{BareRun, bare_run_to, filled_up, run-bare}
 use Rattle.placement.specs.Row.{length-filled}
 use Rattle.placement.specs.Lengths.{run-most}
-use Rattle.survey.specs.declared.looks.Glance.{Glance}
-use Rattle.survey.specs.declared.looks.Glance.TheVariants.{Stale, Moves}
 use Rattle.survey.specs.declared.looks.Reach.{Reach}
 use Rattle.survey.specs.declared.looks.Reach.TheVariants.{Anywhere, Everywhere, Before, After}
 use Rattle.survey.specs.Rows.{differ_to, differ_same, differ-moves, same_rows}
@@ -81,12 +79,12 @@ Stood ps w row r = (r ≡ same row (entries_of ps)) × (length (entries_of ps) �
 pub stood : (ps : List Place) (w : ℕ) (row places : List ℕ) (r : Bool) → length places ≡ w → places ≡ entries_of ps → r ≡ same row places → Stood ps w row r
 stood ps w row places r l e q = (q ∙ ap (same row) e, ap length (sym e) ∙ l)
 
--- what was found of a group whose old and new places these are, and of its row of the table
-abbrev pub Looked : List Place → List Place → ℕ → ℕ → List ℕ → Glance → Type 0
-Looked ps qs w x row Stale = (same row (entries_of ps) ≡ false) × (length (entries_of ps) ≡ w)
-Looked ps qs w x row (Moves k) = (row ≡ entries_of ps) × (k ≡ length (row_moves_to x ps qs w)) × (k ≤ 32)
+-- what was found of a group whose old and new places these are, and of its row of the table: it is not the old row, or so many places move
+abbrev pub Looked : List Place → List Place → ℕ → ℕ → List ℕ → Option ℕ → Type 0
+Looked ps qs w x row None = (same row (entries_of ps) ≡ false) × (length (entries_of ps) ≡ w)
+Looked ps qs w x row (Some k) = (row ≡ entries_of ps) × (k ≡ length (row_moves_to x ps qs w)) × (k ≤ 32)
 
-abbrev pub LookedAt : List ℕ → List ℕ → List ℕ → Rule → ℕ → ℕ → List ℕ → Glance → Type 0
+abbrev pub LookedAt : List ℕ → List ℕ → List ℕ → Rule → ℕ → ℕ → List ℕ → Option ℕ → Type 0
 LookedAt plan old new rule w x row o = Looked (places_at plan old rule w x) (places_at plan new rule w x) w x row o
 
 -- whether an edit of this reach can move places between these rows of a group, old and new
@@ -101,53 +99,44 @@ abbrev pub Within : Reach → List ℕ → List ℕ → List ℕ → Rule → �
 Within reach plan old new rule w x =
     reached reach (entries_of (places_at plan old rule w x)) (entries_of (places_at plan new rule w x)) ≡ false → moves_at plan old new rule w x ≡ []
 
--- few places move
-pub few-moves : (ps qs : List Place) (w x : ℕ) (row : List ℕ) (o : Glance) (k : ℕ) → Looked ps qs w x row o → o ≡ Moves k → k ≤ 32
-few-moves ps qs w x row o k l e = (subst (Looked ps qs w x row) e l).2
+pub looked-stale : (ps qs : List Place) (w x : ℕ) (row : List ℕ) (r : Bool) → Stood ps w row r → r ≡ false → Looked ps qs w x row None
+looked-stale ps qs w x row r q f = (sym q.0 ∙ f, q.1)
 
-pub looked-stale : (ps qs : List Place) (w x : ℕ) (row : List ℕ) (r : Bool) → Stood ps w row r → not r ≡ true → Looked ps qs w x row Stale
-looked-stale ps qs w x row r q f = (sym q.0 ∙ not-true r f, q.1)
-
-pub looked-moves : (ps qs : List Place) (w x k : ℕ) (row new : List ℕ) (r : Bool) → length row ≡ w → Stood ps w row r → not r ≡ false
-    → length new ≡ w → new ≡ entries_of qs → k ≡ differ_to row new (length row) → k ≤ 32 → Looked ps qs w x row (Moves k)
+pub looked-moves : (ps qs : List Place) (w x k : ℕ) (row new : List ℕ) (r : Bool) → length row ≡ w → Stood ps w row r → r ≡ true
+    → length new ≡ w → new ≡ entries_of qs → k ≡ differ_to row new (length row) → k ≤ 32 → Looked ps qs w x row (Some k)
 looked-moves ps qs w x k row new r l q t l' e' c h =
-    let i : row ≡ entries_of ps = same-is row (entries_of ps) (sym q.0 ∙ not-false r t) in
+    let i : row ≡ entries_of ps = same-is row (entries_of ps) (sym q.0 ∙ t) in
     let a : length ps ≡ w = sym (length-entries ps) ∙ q.1 in
     let b : length qs ≡ w = sym (length-entries qs) ∙ ap length (sym e') ∙ l' in
     (i, c ∙ ap₂ (λ (y z : List ℕ). differ_to y z (length row)) i e' ∙ ap (differ_to (entries_of ps) (entries_of qs)) l ∙ differ-moves x ps qs w (omega arith) (omega arith), h)
 
 -- a row beside the old places, of which none moves
 looked-unmoved : (ps qs : List Place) (w x : ℕ) (row : List ℕ) (r : Bool) → Stood ps w row r → (row ≡ entries_of ps → 0 ≡ length (row_moves_to x ps qs w))
-    → Looked ps qs w x row (cond r (Moves 0) Stale)
+    → Looked ps qs w x row (then_some r 0)
 looked-unmoved ps qs w x row true q none =
     let i : row ≡ entries_of ps = same-is row (entries_of ps) (sym q.0) in (i, none i, omega arith)
 looked-unmoved ps qs w x row false q none = (sym q.0, q.1)
 
--- the device is not held, by a number for it
-not-held : (b : Bool) (k : ℕ) → k ≡ cond b 1 0 → k ≡ 0 → b ≡ false
-not-held true k e z = absurd (omega arith)
-not-held false k e z = refl
-
 -- a row that does not hold the device
-pub looked-before : (ps qs : List Place) (w x d : ℕ) (row : List ℕ) (k : ℕ) (r : Bool) (o : Glance) → Stood ps w row r → k ≡ cond (has d row) 1 0 → k ≡ 0
-    → (has d (entries_of ps) ≡ false → row_moves_to x ps qs w ≡ []) → o ≡ cond r (Moves 0) Stale → Looked ps qs w x row o
-looked-before ps qs w x d row k r o q h z within e =
-    rw e (looked-unmoved ps qs w x row r q (λ i. ap length (sym (within (ap (has d) (sym i) ∙ not-held (has d row) k h z)))))
+pub looked-before : (ps qs : List Place) (w x d : ℕ) (row : List ℕ) (b r : Bool) → Stood ps w row r → b ≡ has d row → b ≡ false
+    → (has d (entries_of ps) ≡ false → row_moves_to x ps qs w ≡ []) → Looked ps qs w x row (then_some r 0)
+looked-before ps qs w x d row b r q h z within =
+    looked-unmoved ps qs w x row r q (λ i. ap length (sym (within (ap (has d) (sym i) ∙ sym h ∙ z))))
 
 -- new places that do not have it
-pub looked-after : (ps qs : List Place) (w x d : ℕ) (row new : List ℕ) (k : ℕ) (r : Bool) (o : Glance) → length (entries_of ps) ≡ w → length new ≡ w → new ≡ entries_of qs
-    → k ≡ cond (has d new) 1 0 → k ≡ 0 → (has d (entries_of qs) ≡ false → row_moves_to x ps qs w ≡ []) → r ≡ same row new → o ≡ cond r (Moves 0) Stale → Looked ps qs w x row o
-looked-after ps qs w x d row new k r o l l' e' h z within s e =
-    let none : row_moves_to x ps qs w ≡ [] = within (ap (has d) (sym e') ∙ not-held (has d new) k h z) in
+pub looked-after : (ps qs : List Place) (w x d : ℕ) (row new : List ℕ) (b r : Bool) → length (entries_of ps) ≡ w → length new ≡ w → new ≡ entries_of qs
+    → b ≡ has d new → b ≡ false → (has d (entries_of qs) ≡ false → row_moves_to x ps qs w ≡ []) → r ≡ same row new → Looked ps qs w x row (then_some r 0)
+looked-after ps qs w x d row new b r l l' e' h z within s =
+    let none : row_moves_to x ps qs w ≡ [] = within (ap (has d) (sym e') ∙ sym h ∙ z) in
     let i : new ≡ entries_of ps = e' ∙ sym (same_rows x w ps qs l (ap length (sym e') ∙ l') none) in
-    rw e (looked-unmoved ps qs w x row r (s ∙ ap (same row) i, l) (λ _. ap length (sym none)))
+    looked-unmoved ps qs w x row r (s ∙ ap (same row) i, l) (λ _. ap length (sym none))
 
 -- places that are the same in both runs
-pub looked-one : (ps qs : List Place) (w x : ℕ) (row both : List ℕ) (r : Bool) (o : Glance) → length both ≡ w → both ≡ entries_of ps → both ≡ entries_of qs
-    → r ≡ same row both → o ≡ cond r (Moves 0) Stale → Looked ps qs w x row o
-looked-one ps qs w x row both r o l e e' s q =
+pub looked-one : (ps qs : List Place) (w x : ℕ) (row both : List ℕ) (r : Bool) → length both ≡ w → both ≡ entries_of ps → both ≡ entries_of qs
+    → r ≡ same row both → Looked ps qs w x row (then_some r 0)
+looked-one ps qs w x row both r l e e' s =
     let a : length ps ≡ w = sym (length-entries ps) ∙ ap length (sym e) ∙ l in
     let b : length qs ≡ w = sym (length-entries qs) ∙ ap length (sym e') ∙ l in
     let none : 0 ≡ length (row_moves_to x ps qs w) =
     differ_same both w ∙ ap₂ (λ (y z : List ℕ). differ_to y z w) e e' ∙ differ-moves x ps qs w (omega arith) (omega arith) in
-    rw q (looked-unmoved ps qs w x row r (s ∙ ap (same row) e, ap length (sym e) ∙ l) (λ _. none))
+    looked-unmoved ps qs w x row r (s ∙ ap (same row) e, ap length (sym e) ∙ l) (λ _. none)

@@ -1,12 +1,10 @@
 -- Two rows, place by place, and the moves of a row. Assumes nothing.
-use Rattle.std.specs.Prelude.{◌≡◌, refl, Bool, true, false, cond, List, [], ◌∷◌, ◌++◌, ℕ, zero, suc, ◌+◌, ◌<◌, ◌≤◌, eqb, length, get_or, drop}
-use Rattle.std.proofs.Common.{sym, ap, ◌∙◌, ⊎_elim, arith, add-one, eq-or-lt_of_le, length-append, ext_get_or}
+use Rattle.std.specs.Prelude.{◌≡◌, refl, Bool, true, false, not, cond, List, [], ◌∷◌, ◌++◌, ℕ, zero, suc, ◌+◌, ◌<◌, ◌≤◌, eqb, length, get_or, filter}
+use Rattle.std.specs.List.{zip}
+use Rattle.std.proofs.Common.{sym, ap, ◌∙◌, ⊎_elim, arith, eq-or-lt_of_le, length-append, ext_get_or}
 use Rattle.std.proofs.lemmas.List.{length-map}
-use Rattle.std.proofs.Math.ListN.{drop_of_length-le}
-use Rattle.std.proofs.Math.Seq.{drop-cons}
-use borrow.Author.Tests.{eq-eqb, ne_eqb, eqb-true}
+use borrow.Author.Tests.{eq-eqb, eqb-true}
 use Rattle.definitions.specs.declared.Move.{Move}
-use Rattle.definitions.specs.Lists.{same}
 use Rattle.definitions.specs.Select.{Place, entries_of, nowhere}
 use Rattle.definitions.specs.Edit.{move_at, row_moves_to}
 use Rattle.laws.specs.Lists.{get_d-mapped}
@@ -15,10 +13,6 @@ use Rattle.laws.specs.Lists.{get_d-mapped}
 unfoldable pub differ_to : List ℕ → List ℕ → ℕ → ℕ
 differ_to old new zero = 0
 differ_to old new (suc k) = differ_to old new k + cond (eqb (get_or old k 0) (get_or new k 0)) 0 1
-
-pub differ-none : (old new : List ℕ) → 0 ≡ differ_to old new 0
-unfolding differ_to
-differ-none old new = refl
 
 pub differ-small : (old new : List ℕ) (k : ℕ) → differ_to old new k ≤ k
 unfolding differ_to
@@ -29,11 +23,22 @@ differ-small old new (suc k) = go (eqb (get_or old k 0) (get_or new k 0)) (diffe
     go true h = omega arith
     go false h = omega arith
 
--- one place more, of a loop that counts
-pub differ-more : (old new : List ℕ) (k r d : ℕ) → r ≡ differ_to old new k → d ≡ cond (eqb (get_or old k 0) (get_or new k 0)) 0 1
-    → r + d ≡ differ_to old new (k + 1)
+-- a test of each two entries finds them
+pub differ-counted : (old new : List ℕ) → length old ≡ length new → length (filter (λ (p : ℕ × ℕ). not (eqb p.0 p.1)) (zip old new)) ≡ differ_to old new (length old)
 unfolding differ_to
-differ-more old new k r d e q = rw (add-one k, e, q) refl
+differ-counted [] ys e = refl
+differ-counted (x ∷ xs) [] e = absurd (omega (arith, e))
+differ-counted (x ∷ xs) (y ∷ ys) e = go (eqb x y) (differ-counted xs ys (omega (arith, e))) ∙ sym (front (length xs))
+  where
+    front : (k : ℕ) → differ_to (x ∷ xs) (y ∷ ys) (suc k) ≡ cond (eqb x y) 0 1 + differ_to xs ys k
+    front zero = omega arith
+    front (suc k) = omega (arith, front k)
+
+    go : (b : Bool) → length (filter (λ (p : ℕ × ℕ). not (eqb p.0 p.1)) (zip xs ys)) ≡ differ_to xs ys (length xs)
+        → length (cond (not b) ((x, y) ∷ filter (λ (p : ℕ × ℕ). not (eqb p.0 p.1)) (zip xs ys)) (filter (λ (p : ℕ × ℕ). not (eqb p.0 p.1)) (zip xs ys)))
+        ≡ cond b 0 1 + differ_to xs ys (length xs)
+    go true q = omega (arith, q)
+    go false q = omega (arith, q)
 
 -- the number of the moves of a row goes by the entries alone
 pub differ-moves : (g : ℕ) (ps qs : List Place) (k : ℕ) → k ≤ length ps → k ≤ length qs
@@ -76,19 +81,3 @@ same_rows g w ps qs a b e =
     let n = length-map qs (λ (p : Place). p.entry) in
     ext_get_or 0 (entries_of ps) (entries_of qs) (a ∙ sym b)
     (λ i h. same-places (entries_of ps) (entries_of qs) w (differ-moves g ps qs w (omega (arith, a, m)) (omega (arith, b, n)) ∙ ap length e) i (omega (arith, a, h)))
-
--- ---- the same rows
-
--- a loop that compares from the front
-module _ (xs ys : List ℕ) (i : ℕ) where
-  pub same_next : i < length xs → i < length ys → get_or xs i 0 ≡ get_or ys i 0 → same (drop (i + 1) xs) (drop (i + 1) ys) ≡ same (drop i xs) (drop i ys)
-  unfolding same
-  same_next h l e = rw (add-one i, drop-cons xs i 0 h, drop-cons ys i 0 l, eq-eqb _ _ e)
-
-  pub same_stop : i < length xs → i < length ys → (get_or xs i 0 ≡ get_or ys i 0 → ⊥) → same (drop i xs) (drop i ys) ≡ false
-  unfolding same
-  same_stop h l f = rw (drop-cons xs i 0 h, drop-cons ys i 0 l, ne_eqb _ _ f)
-
-  pub same_end : length xs ≤ i → length ys ≤ i → same (drop i xs) (drop i ys) ≡ true
-  unfolding same
-  same_end h l = rw (drop_of_length-le xs {i = i} h, drop_of_length-le ys {i = i} l)

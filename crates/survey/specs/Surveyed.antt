@@ -1,8 +1,8 @@
 -- The rows and the moves of the groups below a number, and what a survey of the table finds. Assumes nothing.
-use Rattle.std.specs.Prelude.{◌≡◌, Bool, true, false, cond, ℕ, zero, suc, ◌+◌, ◌*◌, ◌<◌, ◌≤◌, eqb, length, get_or, take, drop, set}
+use Rattle.std.specs.Prelude.{◌≡◌, Bool, true, false, not, Option, None, Some, ℕ, zero, suc, ◌+◌, ◌*◌, ◌<◌, ◌≤◌, eqb, length, get_or, take, drop, set}
 use Rattle.std.proofs.Math.Path.{refl, subst}
 use Rattle.std.proofs.Common.{sym, ap, ap₂, ◌∙◌, add-one, eq-or-lt_of_le, mul-le-mul_right, mul-le-mul, zero-mul, eqb-true, length-append, take_at, drop_at, take-take, length-take-le, get_or-set_same, get_or-set_other}
-use Rattle.std.proofs.lemmas.Bool.{false≢true}
+use Rattle.std.proofs.lemmas.Bool.{false≢true, not-false}
 use mathlib.Core.List.Memᴰ
 use mathlib.Core.List.{List, [], ◌∷◌, ◌++◌, append-nil, append_assoc, Memᴰ}
 use Rattle.std.proofs.Math.Logic.{⊎_elim}
@@ -14,8 +14,6 @@ use Rattle.definitions.specs.Lists.{same}
 use Rattle.definitions.specs.Select.{Place, entries_of}
 use Rattle.definitions.specs.Edit.{row_moves_to}
 use Rattle.laws.specs.Lists.{same-is, is_same}
-use Rattle.survey.specs.declared.looks.Glance.{Glance}
-use Rattle.survey.specs.declared.looks.Glance.TheVariants.{Stale, Moves}
 use Rattle.survey.specs.declared.surveys.Findings.{Findings}
 use Rattle.survey.specs.Places.{Looked}
 
@@ -101,25 +99,26 @@ pub rows_all : (w : ℕ) (f : ℕ → List Place) (g groups : ℕ) (table : List
 rows_all w f g groups table e q = rw (← e) (sym (is_same _ _ q))
 
 module _ (w : ℕ) (f f' : ℕ → List Place) where
-  -- what a survey of the table finds: 19, "Table what fill gives?", the number of moves, and which groups have none
-  pub record Surveyed (groups : ℕ) (table : List ℕ) (s : Findings) : Type 0 where
-    pub fresh : s.fresh ≡ same (take (groups * w) table) (rows_to f groups)
-    pub moves : s.fresh ≡ true → s.moves ≡ length (moves_by w f f' groups)
-    pub changed : s.fresh ≡ true → (g : ℕ) → g < groups → get_or s.changed g 0 ≡ 0 → row_moves_to g (f g) (f' g) w ≡ []
+  -- of a table that is what fill gives: the number of moves, and which groups have none
+  pub record Found (groups : ℕ) (table : List ℕ) (s : Findings) : Type 0 where
+    pub rows : take (groups * w) table ≡ rows_to f groups
+    pub moves : s.moves ≡ length (moves_by w f f' groups)
+    pub changed : (g : ℕ) → g < groups → get_or s.changed g false ≡ false → row_moves_to g (f g) (f' g) w ≡ []
 
-  -- a fresh table's rows
-  pub fresh-rows : {groups : ℕ} {table : List ℕ} {s : Findings} → Surveyed groups table s → s.fresh ≡ true → take (groups * w) table ≡ rows_to f groups
-  fresh-rows q e = same-is _ _ (sym q.fresh ∙ e)
+  -- what a survey of the table finds: 19, "Table what fill gives?", and then that
+  abbrev pub Surveyed : ℕ → List ℕ → Option Findings → Type 0
+  Surveyed groups table None = same (take (groups * w) table) (rows_to f groups) ≡ false
+  Surveyed groups table (Some s) = Found groups table s
 
   -- what is known where the groups below g were looked at
-  pub record Sofar (g : ℕ) (table : List ℕ) (moves : ℕ) (changed : List ℕ) : Type 0 where
+  pub record Sofar (g : ℕ) (table : List ℕ) (moves : ℕ) (changed : List Bool) : Type 0 where
     pub rows : take (g * w) table ≡ rows_to f g
     pub counted : moves ≡ length (moves_by w f f' g)
     pub few : moves ≤ g * 32
-    pub marks : (k : ℕ) → k < g → get_or changed k 0 ≡ 0 → row_moves_to k (f k) (f' k) w ≡ []
+    pub marks : (k : ℕ) → k < g → get_or changed k false ≡ false → row_moves_to k (f k) (f' k) w ≡ []
     pub long : length changed ≡ 65536
 
-  pub sofar-none : (table changed : List ℕ) → length changed ≡ 65536 → Sofar 0 table 0 changed
+  pub sofar-none : (table : List ℕ) (changed : List Bool) → length changed ≡ 65536 → Sofar 0 table 0 changed
   unfolding moves_by
   sofar-none table changed l = record { rows = rows_none w f table; counted = refl; few = omega arith; marks = λ k h e. absurd (omega arith); long = l }
 
@@ -127,54 +126,39 @@ module _ (w : ℕ) (f f' : ℕ → List Place) where
   none-length [] e = refl
   none-length (m ∷ ms) e = absurd (omega (arith, e))
 
-  module _ (g groups : ℕ) (table changed : List ℕ) (moves : ℕ) (s : Sofar g table moves changed) (h : g < groups) (room : groups * w ≤ length table)
-      (j : ℕ) (one : j ≡ w) (o : Glance) (found : Looked (f g) (f' g) w g (take j (drop (g * w) table)) o) where
+  module _ (g groups : ℕ) (table : List ℕ) (changed : List Bool) (moves : ℕ) (s : Sofar g table moves changed) (h : g < groups) (room : groups * w ≤ length table)
+      (j : ℕ) (one : j ≡ w) where
     abbrev row : List ℕ
     row = take j (drop (g * w) table)
 
     -- one group more
-    pub sofar-more : (k b : ℕ) → g < 65536 → o ≡ Moves k → b ≡ cond (eqb k 0) 0 1
+    pub sofar-more : (k : ℕ) (b : Bool) → g < 65536 → Looked (f g) (f' g) w g row (Some k) → b ≡ not (eqb k 0)
         → Sofar (g + 1) table (moves + k) (set changed g b)
     unfolding moves_by
-    sofar-more k b l moved e =
+    sofar-more k b l told e =
         record {
           rows = rows_more w f g table s.rows j one told.0;
           counted = rw (add-one, s.counted, told.1) (sym (length-append (moves_by w f f' g) (row_moves_to g (f g) (f' g) w)));
           few = omega (arith, s.few, told.2);
-          marks = λ i l z. ⊎_elim (λ (q : i ≡ g). last i q z) (λ (q : i < g). s.marks i q (sym (get_or-set_other changed g i b 0 (λ t. omega arith)) ∙ z)) (eq-or-lt_of_le (omega arith));
+          marks = λ i l z. ⊎_elim (λ (q : i ≡ g). last i q z) (λ (q : i < g). s.marks i q (sym (get_or-set_other changed g i b false (λ t. omega arith)) ∙ z)) (eq-or-lt_of_le (omega arith));
           long = length-set changed g b ∙ s.long;
         }
       where
-        told : Looked (f g) (f' g) w g row (Moves k)
-        told = subst (Looked (f g) (f' g) w g row) moved found
-
-        unmarked : (t : Bool) → eqb k 0 ≡ t → b ≡ cond t 0 1 → b ≡ 0 → k ≡ 0
-        unmarked true q p z = eqb-true k 0 q
-        unmarked false q p z = absurd (omega (arith, p, z))
-
-        last : (i : ℕ) → i ≡ g → get_or (set changed g b) i 0 ≡ 0 → row_moves_to i (f i) (f' i) w ≡ []
+        last : (i : ℕ) → i ≡ g → get_or (set changed g b) i false ≡ false → row_moves_to i (f i) (f' i) w ≡ []
         last i q z =
-            let y : b ≡ 0 = sym (get_or-set_same changed g b 0 (omega (arith, s.long))) ∙ ap (λ (x : ℕ). get_or (set changed g b) x 0) (sym q) ∙ z in
-            rw q (none-length (row_moves_to g (f g) (f' g) w) (sym told.1 ∙ unmarked (eqb k 0) refl e y))
+            let y : b ≡ false = sym (get_or-set_same changed g b false (omega (arith, s.long))) ∙ ap (λ (x : ℕ). get_or (set changed g b) x false) (sym q) ∙ z in
+            rw q (none-length (row_moves_to g (f g) (f' g) w) (sym told.1 ∙ eqb-true k 0 (not-false (eqb k 0) (sym e ∙ y))))
 
     -- a row that is not what fill gives
-    pub surveyed-stale : o ≡ Stale → Surveyed groups table (record { fresh = false; moves = 0; changed = changed })
-    surveyed-stale stale =
-        record {
-          fresh = sym (rows-differ w f g table s.rows j one groups h room told.1 told.0);
-          moves = λ e. absurd (false≢true e);
-          changed = λ e. absurd (false≢true e);
-        }
-      where
-        told : Looked (f g) (f' g) w g row Stale
-        told = subst (Looked (f g) (f' g) w g row) stale found
+    pub surveyed-stale : Looked (f g) (f' g) w g row None → Surveyed groups table None
+    surveyed-stale told = rows-differ w f g table s.rows j one groups h room told.1 told.0
 
   -- every row is what fill gives
-  pub surveyed-all : (g groups : ℕ) (table changed : List ℕ) (moves : ℕ) → g ≡ groups → Sofar g table moves changed
-      → Surveyed groups table (record { fresh = true; moves = moves; changed = changed })
+  pub surveyed-all : (g groups : ℕ) (table : List ℕ) (changed : List Bool) (moves : ℕ) → g ≡ groups → Sofar g table moves changed
+      → Surveyed groups table (Some (record { moves = moves; changed = changed }))
   surveyed-all g groups table changed moves e s =
       record {
-        fresh = rows_all w f g groups table e s.rows;
-        moves = λ t. s.counted ∙ ap (λ (n : ℕ). length (moves_by w f f' n)) e;
-        changed = λ t k h. s.marks k (omega arith);
+        rows = rw (← e) s.rows;
+        moves = s.counted ∙ ap (λ (n : ℕ). length (moves_by w f f' n)) e;
+        changed = λ k h. s.marks k (omega arith);
       }

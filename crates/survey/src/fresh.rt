@@ -21,14 +21,11 @@ pub fn is_fresh<'a, 'b>(
     ensures { result ≡ same (take (groups * w) table.now)
         (rows_to (places_at plan.now values.now rule w) groups) }
 {
-    let mut g: u32 = 0;
-    while g < groups {
+    for g in 0..groups {
         let a = g as usize * w;
-        let e = a + w;
-        if !looks::stands(plan, values, rule, g, w, &table[a..e]) {
+        if !looks::stands(plan, values, rule, g, w, &table[a..a + w]) {
             return false;
         }
-        g += 1;
     }
     true
 }

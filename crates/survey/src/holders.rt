@@ -9,13 +9,11 @@ pub fn holders(table: &[u16], groups: u32, w: usize, d: u32) -> u32
     requires { (groups ≤ 65536) × (w ≤ 32) × (groups * w ≤ length table.now) }
     ensures { (result ≡ rows_holding w d table.now groups) × (result ≤ groups) }
 {
-    let mut r: u32 = 0;
-    let mut g: u32 = 0;
-    while g < groups {
-        let a = g as usize * w;
-        let e = a + w;
-        r += rows::holds(&table[a..e], d);
-        g += 1;
+    let mut r = 0;
+    for g in 0..groups as usize {
+        if rows::holds(&table[g * w..g * w + w], d) {
+            r += 1;
+        }
     }
     r
 }

@@ -1,5 +1,6 @@
-// One group in both runs, or in one where no place of it moves, beside its row of the table.
-ghost use Rattle.std.specs.Prelude.{◌≡◌, true, cond, List, ℕ, length, take};
+// One group in both runs, or in one where no place of it moves, beside its row of the table. The plan, the values and the rule stay arguments of their
+// own, here and above: a struct of references would stand in each clause at two moments, its entry and its exit.
+ghost use Rattle.std.specs.Prelude.{◌≡◌, List, ℕ, length, take, IfSome};
 ghost use Rattle.definitions.specs.Select.{Place, entries_of};
 ghost use Rattle.survey.specs.Places.{places_at, Runs, Stood, Looked, LookedAt, reached, Within};
 
@@ -8,15 +9,8 @@ use causes::joint;
 use hierarchy::{Plan, Rule, Values};
 use placement::rule;
 
-// The row is not what fill gives, or it is, and so many places move.
-#[derive(Clone, Copy)]
-pub enum Glance {
-    Stale,
-    Moves(u32),
-}
-
 // In which groups places can move: in all, and then in few of them or in many; in those whose old row holds the device, or in those whose new row does.
-#[derive(Clone, Copy)]
+#[derive(Clone, Copy, PartialEq, Eq)]
 pub enum Reach {
     Anywhere,
     Everywhere,
@@ -29,13 +23,10 @@ pub enum Reach {
 pub fn reach_at(reach: Reach, moves: u32, g: u32) -> Reach
     ensures { (olds news : List ℕ) → reached result olds news ≡ reached reach olds news }
 {
-    let Reach::Anywhere = reach else {
-        return reach;
-    };
-    if g / 2 < moves {
+    if reach == Reach::Anywhere && g / 2 < moves {
         return Reach::Everywhere;
     }
-    Reach::Anywhere
+    reach
 }
 
 // The w places of group x, at the front of the array.
@@ -43,9 +34,9 @@ pub fn row_of<'a>(plan: &'a Plan, values: &'a Values, rule: Rule, x: u32, w: usi
     requires { Runs plan.now values.now rule w }
     ensures { take w result ≡ entries_of (places_at plan.now values.now rule w x) }
 {
-    let mut r: [u16; 32] = [0; 32];
-    rule::place_row(plan, values, rule, x, &mut r[..w]);
-    r
+    let mut row = [0; 32];
+    rule::place_row(plan, values, rule, x, &mut row[..w]);
+    row
 }
 
 // Whether a row holds the w places of group x.
@@ -61,10 +52,10 @@ pub fn stands<'a, 'b>(
     ensures { Stood (places_at plan.now values.now rule w x) w row.now result }
 {
     let places = row_of(plan, values, rule, x, w);
-    rows::same_row(row, &places[..w])
+    row == &places[..w]
 }
 
-// Group x, whose new places these are, placed by the old run: w places, which the row should hold.
+// How many places of group x move, whose new places these are: the old run places it, w places, which the row should hold.
 fn beside<'a, 'b, 'c>(
     plan: &'a Plan,
     old: &'a Values,
@@ -73,25 +64,15 @@ fn beside<'a, 'b, 'c>(
     w: usize,
     row: &'b [u16],
     after: &'c [u16],
-) -> Glance
+) -> Option<u32>
     requires { Runs plan.now old.now rule w × (length row.now ≡ w) × (length after.now ≡ w) }
     ensures { (qs : List Place) → after.now ≡ entries_of qs
         → Looked (places_at plan.now old.now rule w x) qs w x row.now result }
 {
     if !stands(plan, old, rule, x, w, row) {
-        return Glance::Stale;
+        return None;
     }
-    Glance::Moves(rows::count_row(row, after))
-}
-
-// A group of which no place moves.
-fn unmoved(fresh: bool) -> Glance
-    ensures { result ≡ cond fresh (Glance.Moves 0) Glance.Stale }
-{
-    if fresh {
-        return Glance::Moves(0);
-    }
-    Glance::Stale
+    Some(rows::count_row(row, after))
 }
 
 // Places group x by both runs, one after the other.
@@ -103,7 +84,7 @@ fn look_apart<'a, 'b>(
     x: u32,
     w: usize,
     row: &'b [u16],
-) -> Glance
+) -> Option<u32>
     requires { Runs plan.now old.now rule w × Runs plan.now new.now rule w × (length row.now ≡ w) }
     ensures { LookedAt plan.now old.now new.now rule w x row.now result }
 {
@@ -111,13 +92,7 @@ fn look_apart<'a, 'b>(
     beside(plan, old, rule, x, w, row, &after[..w])
 }
 
-// Both runs of a group made at once: if no walk parts, the places of both are at the front of the array.
-#[derive(Clone, Copy)]
-struct Single {
-    one: bool,
-    row: [u16; 32],
-}
-
+// Both runs of a group made at once: its w places, at the front of the array, if no walk parts.
 fn together<'a>(
     plan: &'a Plan,
     old: &'a Values,
@@ -125,14 +100,13 @@ fn together<'a>(
     rule: Rule,
     x: u32,
     w: usize,
-) -> Single
+) -> Option<[u16; 32]>
     requires { Runs plan.now old.now rule w × Runs plan.now new.now rule w }
-    ensures { result.one ≡ true → (take w result.row ≡ entries_of (places_at plan.now old.now rule w x))
-        × (take w result.row ≡ entries_of (places_at plan.now new.now rule w x)) }
+    ensures { IfSome result (λ row. (take w row ≡ entries_of (places_at plan.now old.now rule w x))
+        × (take w row ≡ entries_of (places_at plan.now new.now rule w x))) }
 {
-    let mut row: [u16; 32] = [0; 32];
-    let one = joint::place_both(plan, old, new, rule, x, &mut row[..w]);
-    Single { one: one, row: row }
+    let mut row = [0; 32];
+    joint::place_both(plan, old, new, rule, x, &mut row[..w]).then_some(row)
 }
 
 // Places group x by both runs at once, and one after the other where their walks part.
@@ -144,16 +118,14 @@ fn look_anywhere<'a, 'b>(
     x: u32,
     w: usize,
     row: &'b [u16],
-) -> Glance
+) -> Option<u32>
     requires { Runs plan.now old.now rule w × Runs plan.now new.now rule w × (length row.now ≡ w) }
     ensures { LookedAt plan.now old.now new.now rule w x row.now result }
 {
-    let both = together(plan, old, new, rule, x, w);
-    if both.one {
-        let places = both.row;
-        return unmoved(rows::same_row(row, &places[..w]));
+    match together(plan, old, new, rule, x, w) {
+        Some(places) => (row == &places[..w]).then_some(0),
+        None => look_apart(plan, old, new, rule, x, w, row),
     }
-    look_apart(plan, old, new, rule, x, w, row)
 }
 
 // Where places move only if the old row holds device d: a row without it is placed by the old run alone.
@@ -166,15 +138,15 @@ fn look_before<'a, 'b>(
     w: usize,
     row: &'b [u16],
     d: u32,
-) -> Glance
+) -> Option<u32>
     requires runs { Runs plan.now old.now rule w × Runs plan.now new.now rule w × (length row.now ≡ w) }
     requires within { Within (Reach.Before d) plan.now old.now new.now rule w x }
     ensures { LookedAt plan.now old.now new.now rule w x row.now result }
 {
-    if rows::holds(row, d) != 0 {
+    if rows::holds(row, d) {
         return look_apart(plan, old, new, rule, x, w, row);
     }
-    unmoved(stands(plan, old, rule, x, w, row))
+    stands(plan, old, rule, x, w, row).then_some(0)
 }
 
 // Where places move only if the new row holds device d: a new row without it is the old one too.
@@ -187,19 +159,20 @@ fn look_after<'a, 'b>(
     w: usize,
     row: &'b [u16],
     d: u32,
-) -> Glance
+) -> Option<u32>
     requires runs { Runs plan.now old.now rule w × Runs plan.now new.now rule w × (length row.now ≡ w) }
     requires within { Within (Reach.After d) plan.now old.now new.now rule w x }
     ensures { LookedAt plan.now old.now new.now rule w x row.now result }
 {
     let after = row_of(plan, new, rule, x, w);
-    if rows::holds(&after[..w], d) != 0 {
+    if rows::holds(&after[..w], d) {
         return beside(plan, old, rule, x, w, row, &after[..w]);
     }
-    unmoved(rows::same_row(row, &after[..w]))
+    (row == &after[..w]).then_some(0)
 }
 
-// Places group x, of which an edit of this reach may move places, by one run or both: w places, of which the row should hold the old.
+// How many places of group x move, of which an edit of this reach may move some: one run places it, or both, w places, of which the row should
+// hold the old. None: it does not.
 pub fn look<'a, 'b>(
     plan: &'a Plan,
     old: &'a Values,
@@ -209,7 +182,7 @@ pub fn look<'a, 'b>(
     w: usize,
     row: &'b [u16],
     reach: Reach,
-) -> Glance
+) -> Option<u32>
     requires runs { Runs plan.now old.now rule w × Runs plan.now new.now rule w × (length row.now ≡ w) }
     requires within { Within reach plan.now old.now new.now rule w x }
     ensures { LookedAt plan.now old.now new.now rule w x row.now result }

@@ -1,38 +1,23 @@
 // Document 01, "Questions at the door", 19 and 20: the whole table beside what fill gives, and the number of an edit's moves.
-ghost use Rattle.std.specs.Prelude.{◌≡◌, cond, ℕ, ◌*◌, ◌<◌, ◌≤◌, eqb, length};
+ghost use Rattle.std.specs.Prelude.{ℕ, ◌*◌, ◌<◌, ◌≤◌, length};
 ghost use Rattle.definitions.specs.Map.{Map};
 ghost use Rattle.survey.specs.Places.{places_at, Runs, Within};
 ghost use Rattle.survey.specs.Between.{Between, Answers};
 ghost use Rattle.survey.specs.Surveyed.{Surveyed};
 
 use crate::looks;
-use crate::looks::{Glance, Reach};
+use crate::looks::Reach;
 use hierarchy::{Plan, Rule, Values};
 
-// Whether the table is what fill gives, and then how many places move, and 1 for each group of which some do.
+// How many places move, and which groups those are of.
 #[derive(Clone, Copy)]
 pub struct Findings {
-    pub fresh: bool,
     pub moves: u32,
-    pub changed: [u8; 65536],
+    pub changed: [bool; 65536],
 }
 
-// No group is marked.
-fn unmarked() -> [u8; 65536] {
-    [0; 65536]
-}
-
-// The mark of a group of which k places move.
-fn mark(k: u32) -> u8
-    ensures { result ≡ cond (eqb k 0) 0 1 }
-{
-    if k == 0 {
-        return 0;
-    }
-    1
-}
-
-// Looks at every group below groups, w places wide each, and writes nothing. Places move within the reach alone.
+// Looks at every group below groups, w places wide each, and writes nothing. Places move within the reach alone. None: the table is not what
+// fill gives.
 pub fn survey_within<'a, 'b>(
     plan: &'a Plan,
     old: &'a Values,
@@ -42,7 +27,7 @@ pub fn survey_within<'a, 'b>(
     w: usize,
     table: &'b [u16],
     reach: Reach,
-) -> Findings
+) -> Option<Findings>
     requires runs { Runs plan.now old.now rule w × Runs plan.now new.now rule w }
     requires groups_bound { (groups ≤ 65536) × (groups * w ≤ length table.now) }
     requires by_index { (g : ℕ) → g < groups → Within reach plan.now old.now new.now rule w g }
@@ -53,34 +38,16 @@ pub fn survey_within<'a, 'b>(
     ensures answers { (m m' : Map) → Between plan.now old.now new.now rule groups w m m'
         → Answers m m' table.now result }
 {
-    let mut changed = unmarked();
-    let mut moves: u32 = 0;
-    let mut g: u32 = 0;
-    while g < groups {
+    let mut changed = [false; 65536];
+    let mut moves = 0;
+    for g in 0..groups {
         let here = looks::reach_at(reach, moves, g);
         let a = g as usize * w;
-        let e = a + w;
-        let o = looks::look(plan, old, new, rule, g, w, &table[a..e], here);
-        match o {
-            Glance::Stale => {
-                return Findings {
-                    fresh: false,
-                    moves: 0,
-                    changed: changed,
-                };
-            }
-            Glance::Moves(k) => {
-                changed[g as usize] = mark(k);
-                moves += k;
-            }
-        }
-        g += 1;
+        let k = looks::look(plan, old, new, rule, g, w, &table[a..a + w], here)?;
+        changed[g as usize] = k != 0;
+        moves += k;
     }
-    Findings {
-        fresh: true,
-        moves: moves,
-        changed: changed,
-    }
+    Some(Findings { moves, changed })
 }
 
 // Looks at every group, of which any may have places that move.
@@ -92,7 +59,7 @@ pub fn survey<'a, 'b>(
     groups: u32,
     w: usize,
     table: &'b [u16],
-) -> Findings
+) -> Option<Findings>
     requires runs { Runs plan.now old.now rule w × Runs plan.now new.now rule w }
     requires groups_bound { (groups ≤ 65536) × (groups * w ≤ length table.now) }
     ensures surveyed { Surveyed w

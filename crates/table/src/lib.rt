@@ -10,12 +10,6 @@ ghost use Rattle.table.specs.Rows.{rows_to};
 use hierarchy::{Plan, Rule, Values};
 use placement::rule;
 
-fn wide(x: u32) -> usize
-    ensures { result ≡ x }
-{
-    x as usize
-}
-
 // Fills the rows of the groups below `groups`, each w places wide.
 pub fn fill_rows<'a, 'b>(
     plan: &'a Plan,
@@ -29,11 +23,9 @@ pub fn fill_rows<'a, 'b>(
     requires len_bound_2 { (emitted_to (actions_in rule) rule.len ≤ w) × (w ≤ 32) × (groups ≤ 65536) × (groups * w ≤ length table.old) }
     ensures { table.new ≡ rows_to (view_in plan.now values.now) (actions_in rule) rule.len w groups ++ drop (groups * w) table.old }
 {
-    let mut g: u32 = 0;
-    while g < groups {
-        let a = wide(g) * w;
+    for g in 0..groups {
+        let a = g as usize * w;
         let e = a + w;
         rule::place_row(plan, values, rule, g, &mut table[a..e]);
-        g += 1;
     }
 }

@@ -1,6 +1,6 @@
 -- An edit in the text: the digits of one field of one record replaced. The text is then that of the map with that one device or bucket
 -- replaced, and these are what the definitions' `put` gives.
-use Rattle.std.specs.Prelude.{◌≡◌, Bool, true, cond, ◌&&◌, ltb, eqb, length, get_or, take, drop, set}
+use Rattle.std.specs.Prelude.{◌≡◌, Bool, true, cond, ◌&&◌, ltb, eqb, length, get_or, take, drop, set, Some}
 use Rattle.std.proofs.Math.Path.{refl, ap}
 use Rattle.std.proofs.Common.{sym, ◌∙◌, subst, arith, lit<, length-set, drop-drop, length-take-le, ltb-true, eq-eqb, ne_eqb}
 use mathlib.Core.List.{List, [], ◌∷◌, ◌++◌, map, append_assoc, map-append, Memᴰ}
@@ -278,13 +278,13 @@ bearing_all ws m = with_buckets m (map (borne_by ws) m.buckets)
 -- device k replaced is the definitions' edit of the device with that number
 module _ (m : Map) (k d v : ℕ) (r : rising m ≡ true) (l : k < length m.devices) (n : (get_or m.devices k no_device).number ≡ d) where
   -- an acceptance
-  pub put-acceptance : with_device k (accepting (get_or m.devices k no_device) v) m ≡ put m (Acceptance d v)
+  pub put-acceptance : with_device k (accepting (get_or m.devices k no_device) v) m ≡ put m (Some (Acceptance d v))
   unfolding with_device put
   put-acceptance = rw (one-changes d (λ (e : Device). accepting e v) m.devices k (rising-devices m r) l n)
 
   -- a weight, with the sums of all buckets written: the list has them
-  pub put-weight : (ws : List ℕ) → ((b : Bucket) → Memᴰ b m.buckets → get_or ws b.number 0 ≡ weight_of (put m (Weight d v)) (bucket_item b.number))
-      → bearing_all ws (with_device k (weighing (get_or m.devices k no_device) v) m) ≡ put m (Weight d v)
+  pub put-weight : (ws : List ℕ) → ((b : Bucket) → Memᴰ b m.buckets → get_or ws b.number 0 ≡ weight_of (put m (Some (Weight d v))) (bucket_item b.number))
+      → bearing_all ws (with_device k (weighing (get_or m.devices k no_device) v) m) ≡ put m (Some (Weight d v))
   unfolding bearing_all with_device put with_sums
   put-weight ws w =
       let n' = with_devices m (map (with_weight d v) m.devices) in

@@ -1,5 +1,5 @@
 -- Document 01, "Table, edits, moves": a place whose entries differ has walks that part with a cause that is traced. Assumes nothing.
-use Rattle.std.specs.Prelude.{◌≡◌, true, ◌⊎◌, ℕ, ◌<◌, length}
+use Rattle.std.specs.Prelude.{◌≡◌, true, ◌⊎◌, ℕ, ◌<◌, length, Option}
 use Rattle.std.proofs.Common.{sym, ap, ◌∙◌, inl, inr, ⊎_elim, arith}
 use Rattle.std.proofs.Math.Decide.{dec_lt}
 use Rattle.definitions.specs.declared.Change.{Change}
@@ -14,7 +14,7 @@ use Rattle.tracing.specs.Traced.{Traced}
 use Rattle.tracing.specs.Cause.{Caused, caused-differ, cause-is}
 use Rattle.tracing.proofs.Traced.{traced}
 
-module _ (m : Map) (c : Change) (x : ℕ) where
+module _ (m : Map) (c : Option Change) (x : ℕ) where
   -- a place is the same in both runs, entry and walk, or its walks part with a cause that is traced
   pub place-parts : Loadable m → independent m ≡ true → fits m c ≡ true → (k p : ℕ) → p < length (working_at m x k)
       → (place_at m x k p ≡ place_at (put m c) x k p)

@@ -1,6 +1,6 @@
 -- Document 01, "Table, edits, moves": the moves of a fitting edit are those of the places whose entries differ, in their order, and the cause
 -- of each is traced to the edited device, as `MovesTraced` of specs/ says. Assumes nothing.
-use Rattle.std.specs.Prelude.{◌≡◌, true, ◌⊎◌, length}
+use Rattle.std.specs.Prelude.{◌≡◌, true, ◌⊎◌, length, Option}
 use Rattle.std.proofs.Math.Path.{refl, sym, ap, ap₂, subst}
 use Rattle.std.proofs.Common.{◌∙◌, inl, inr}
 use mathlib.Core.List.{Memᴰ}
@@ -23,7 +23,7 @@ use Rattle.tracing.specs.Listed.{Emitted, placed-from, placed-place, emitted-sam
 use Rattle.tracing.specs.Moves.{move_of, listed_at, move-of, of-move, moves-rise, Moved, MovesTraced}
 use Rattle.tracing.proofs.Traced.{traced}
 
-module _ (m : Map) (c : Change) (L : Loadable m) (ind : independent m ≡ true) (f : fits m c ≡ true) where
+module _ (m : Map) (c : Option Change) (L : Loadable m) (ind : independent m ≡ true) (f : fits m c ≡ true) where
   ind' : independent (put m c) ≡ true
   ind' = put-independent m c ∙ ind
 

@@ -1,6 +1,6 @@
 -- Document 01, "Table, edits, moves": every place of every select is the same in the old run and in the new, or the cause of its change is
 -- traced to the edited device, as `Traced` of specs/ says. Assumes nothing.
-use Rattle.std.specs.Prelude.{◌≡◌, Bool, false, cond, ◌⊎◌, eqb, length, get_or}
+use Rattle.std.specs.Prelude.{◌≡◌, Bool, false, cond, ◌⊎◌, eqb, length, get_or, Option}
 use Rattle.std.proofs.Math.Path.{refl, sym, subst}
 use Rattle.std.proofs.Common.{ap, ap₂, ◌∙◌, le_of_lt, eq-or-lt_of_le}
 use Rattle.std.proofs.Math.Bool.{true}
@@ -58,7 +58,7 @@ not-held-verdict : (b : Bool) → cond b Passed Rejected ≡ Held → ⊥
 not-held-verdict true e = let z : ◌≡◌ {A = ℕ} 0 1 = cc in omega arith
 not-held-verdict false e = let z : ◌≡◌ {A = ℕ} 0 1 = cc in omega arith
 
-module _ (m : Map) (c : Change) (x : ℕ) (L : Loadable m) (L' : Loadable (put m c)) (X : Edited m c x) (ind : independent m ≡ true) where
+module _ (m : Map) (c : Option Change) (x : ℕ) (L : Loadable m) (L' : Loadable (put m c)) (X : Edited m c x) (ind : independent m ≡ true) where
   abbrev O : ℕ → ℕ → Place
   O = old m c x
 
@@ -245,6 +245,6 @@ module _ (m : Map) (c : Change) (x : ℕ) (L : Loadable m) (L' : Loadable (put m
       (eq-or-lt_of_le h)
 
 -- every place is the same in both runs, entry and walk, or its cause is traced to the edited device
-pub traced : (m : Map) (c : Change) → Loadable m → independent m ≡ true → fits m c ≡ true → (x k p : ℕ)
+pub traced : (m : Map) (c : Option Change) → Loadable m → independent m ≡ true → fits m c ≡ true → (x k p : ℕ)
     → (place_at m x k p ≡ place_at (put m c) x k p) ⊎ ((cause : ℕ) × Traced m c x k p cause)
 traced m c L ind f x k p = all-traced m c x L (put-loadable m c L f) (edited m c L f x) ind k k (omega arith) p

@@ -1,17 +1,15 @@
 -- Document 01, "Table, edits, moves": the cause that is traced is the one that the definitions give of the place's two walks. Assumes
 -- nothing.
-use Rattle.std.specs.Prelude.{◌≡◌, refl, true, false, List, [], ◌∷◌, ◌++◌, ◌⊎◌, ℕ, suc, ◌/◌, ◌<◌, length}
+use Rattle.std.specs.Prelude.{◌≡◌, refl, true, false, List, [], ◌∷◌, ◌++◌, ◌⊎◌, ℕ, suc, ◌/◌, ◌<◌, length, Option, None, Some}
 use Rattle.std.proofs.Common.{sym, ap, ◌∙◌, append-nil, inl, inr, arith, eq-eqb, ne_eqb}
 use Rattle.definitions.specs.declared.Mode.{Mode}
 use Rattle.definitions.specs.declared.Action.TheVariants.{Select, Emit, Idle}
-use Rattle.definitions.specs.declared.Drawn.{Drawn}
-use Rattle.definitions.specs.declared.Drawn.TheVariants.{Winner, Nothing}
 use Rattle.definitions.specs.declared.Verdict.{Verdict}
 use Rattle.definitions.specs.declared.Verdict.TheVariants.{Held, Rejected, Passed}
 use Rattle.definitions.specs.declared.Event.{Event}
 use Rattle.definitions.specs.declared.Event.TheVariants.{Drew, Tested}
 use Rattle.definitions.specs.declared.Parting.{Parting}
-use Rattle.definitions.specs.declared.Parting.TheVariants.{Same, Draw, Test}
+use Rattle.definitions.specs.declared.Parting.TheVariants.{Test}
 use Rattle.definitions.specs.declared.Change.{Change}
 use Rattle.definitions.specs.Map.{Map}
 use Rattle.definitions.specs.Select.{Place, place_under}
@@ -24,17 +22,17 @@ use Rattle.tracing.specs.Traced.{Here, Traced, above, stays, accept, drawn, held
 
 -- ---- the ends of two events
 
-same-drawn : (y : Drawn) → same_drawn y y ≡ true
+same-drawn : (y : Option ℕ) → same_drawn y y ≡ true
 unfolding same_drawn
-same-drawn Nothing = refl
-same-drawn (Winner i) = eq-eqb i i refl
+same-drawn None = refl
+same-drawn (Some i) = eq-eqb i i refl
 
-drawn-differ : (y z : Drawn) → (y ≡ z → ⊥) → same_drawn y z ≡ false
+drawn-differ : (y z : Option ℕ) → (y ≡ z → ⊥) → same_drawn y z ≡ false
 unfolding same_drawn
-drawn-differ Nothing Nothing f = absurd (f refl)
-drawn-differ Nothing (Winner j) f = refl
-drawn-differ (Winner i) Nothing f = refl
-drawn-differ (Winner i) (Winner j) f = ne_eqb i j (λ e. f (ap Winner e))
+drawn-differ None None f = absurd (f refl)
+drawn-differ None (Some j) f = refl
+drawn-differ (Some i) None f = refl
+drawn-differ (Some i) (Some j) f = ne_eqb i j (λ e. f (ap Some e))
 
 same-verdict : (u : Verdict) → same_verdict u u ≡ true
 unfolding same_verdict
@@ -43,7 +41,7 @@ same-verdict Rejected = refl
 same-verdict Passed = refl
 
 -- an event ends as itself
-ends-self : (e : Event) → ends_of e e ≡ Same
+ends-self : (e : Event) → ends_of e e ≡ None
 unfolding ends_of
 ends-self (Drew b r y) = rw (same-drawn y)
 ends-self (Tested i u) = rw (same-verdict u)
@@ -51,25 +49,24 @@ ends-self (Tested i u) = rw (same-verdict u)
 -- ---- where two walks part
 
 -- a walk parts nowhere from itself
-pub parting-self : (es : List Event) → parting es es ≡ Same
+pub parting-self : (es : List Event) → parting es es ≡ None
 unfolding parting or_else
 parting-self [] = refl
 parting-self (e ∷ es) = rw (ends-self e) (parting-self es)
 
 -- walks that are the same before two events with different ends part there
-pub parting-at : (b es fs : List Event) (e f : Event) → (ends_of e f ≡ Same → ⊥) → parting (b ++ e ∷ es) (b ++ f ∷ fs) ≡ ends_of e f
+pub parting-at : (b es fs : List Event) (e f : Event) → (ends_of e f ≡ None → ⊥) → parting (b ++ e ∷ es) (b ++ f ∷ fs) ≡ ends_of e f
 unfolding parting or_else
 parting-at [] es fs e f d = go (ends_of e f) d
   where
-    go : (p : Parting) → (p ≡ Same → ⊥) → or_else p (parting es fs) ≡ p
-    go Same g = absurd (g refl)
-    go (Draw y z) g = refl
-    go (Test u w) g = refl
+    go : (p : Option Parting) → (p ≡ None → ⊥) → or_else p (parting es fs) ≡ p
+    go None g = absurd (g refl)
+    go (Some q) g = refl
 parting-at (a ∷ b) es fs e f d = rw (ends-self a) (parting-at b es fs e f d)
 
 -- two events of one kind: a draw at one bucket and r', or a test of one item
 pub data OneKind : Event → Event → Type 0 where
-  draws : {b r : ℕ} {y z : Drawn} → OneKind (Drew b r y) (Drew b r z)
+  draws : {b r : ℕ} {y z : Option ℕ} → OneKind (Drew b r y) (Drew b r z)
   tests : {i : ℕ} {u w : Verdict} → OneKind (Tested i u) (Tested i w)
 
 -- two walks that part at events of one kind whose ends differ, with this cause
@@ -78,7 +75,7 @@ pub record Caused (es fs : List Event) (cause : ℕ) : Type 0 where
   pub f : Event
   pub kind : OneKind e f
   pub at : At es fs e f
-  pub parts : ends_of e f ≡ Same → ⊥
+  pub parts : ends_of e f ≡ None → ⊥
   pub is : cause_of (ends_of e f) ≡ cause
 
 -- the parting of two walks is that of the ends where they part
@@ -100,12 +97,12 @@ caused-differ {es} k q = (caused-no-prefix k []).0 (sym q ∙ sym (append-nil es
 
 -- ---- the cause of each kind of parting
 
-draw-cause : {es fs : List Event} {b r : ℕ} {y z : Drawn} → At es fs (Drew b r y) (Drew b r z) → (y ≡ z → ⊥) → Caused es fs 2
+draw-cause : {es fs : List Event} {b r : ℕ} {y z : Option ℕ} → At es fs (Drew b r y) (Drew b r z) → (y ≡ z → ⊥) → Caused es fs 2
 unfolding ends_of cause_of
 draw-cause {b} {r} {y} {z} a f =
     record { e = Drew b r y; f = Drew b r z; kind = draws; at = a; parts = rw (drawn-differ y z f) (λ q. let o : ◌≡◌ {A = ℕ} 0 1 = cc in omega arith); is = rw (drawn-differ y z f) }
 
-test-cause : {es fs : List Event} {i cause : ℕ} (u w : Verdict) → same_verdict u w ≡ false → cause_of (Test u w) ≡ cause
+test-cause : {es fs : List Event} {i cause : ℕ} (u w : Verdict) → same_verdict u w ≡ false → cause_of (Some (Test u w)) ≡ cause
     → At es fs (Tested i u) (Tested i w) → Caused es fs cause
 unfolding ends_of
 test-cause {i} u w d q a =
@@ -140,7 +137,7 @@ begins-above : (m : Map) (x k : ℕ) (mode : Mode) (n t p : ℕ) → step_at m k
 unfolding place_under
 begins-above m x k mode n t p e lv l = (_, ap (λ (a : Place). a.walk) (step-place m x k mode n t e lv p l))
 
-module _ (m : Map) (c : Change) (x : ℕ) where
+module _ (m : Map) (c : Option Change) (x : ℕ) where
   -- where the walks part in a place's own select, they part
   here-at : {k p n : ℕ} {e f : Event} → Here m c x k p n e f → At (place_at m x (suc k) p).walk (place_at (put m c) x (suc k) p).walk e f
   here-at {k} {p} {n} h =

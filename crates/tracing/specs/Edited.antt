@@ -1,6 +1,6 @@
 -- Document 01, "Table, edits, moves": what a fitting edit does to the draws and the acceptance tests of a group: all that tracing needs to
 -- know of an edit. Assumes nothing.
-use Rattle.std.specs.Prelude.{◌≡◌, Bool, true, false, ◌⊎◌, ℕ, ◌<◌, leb, eqb, length, get_or}
+use Rattle.std.specs.Prelude.{◌≡◌, Bool, true, false, ◌⊎◌, ℕ, ◌<◌, leb, eqb, length, get_or, Option, None, Some}
 use Rattle.std.proofs.Math.Path.{refl, sym, ap, ap₂, subst}
 use Rattle.std.proofs.Common.{◌∙◌, arith, eqb-true}
 use Rattle.std.proofs.lemmas.Bool.{false≢true}
@@ -10,12 +10,10 @@ use Rattle.std.proofs.Math.Decide.{dec_lt}
 use Rattle.std.proofs.lemmas.List.{length-map}
 use Rattle.definitions.specs.declared.Action.{Action}
 use Rattle.definitions.specs.declared.Action.TheVariants.{Emit, Idle}
-use Rattle.definitions.specs.declared.Drawn.{Drawn}
-use Rattle.definitions.specs.declared.Drawn.TheVariants.{Winner, Nothing}
 use Rattle.definitions.specs.declared.Kind.{Kind}
 use Rattle.definitions.specs.declared.Kind.TheVariants.{Straw, Tree}
 use Rattle.definitions.specs.declared.Change.{Change}
-use Rattle.definitions.specs.declared.Change.TheVariants.{Acceptance, Weight, Malformed}
+use Rattle.definitions.specs.declared.Change.TheVariants.{Acceptance, Weight}
 use Rattle.definitions.specs.Hash.{S}
 use Rattle.definitions.specs.Tree.{height_of, tree_of}
 use Rattle.definitions.specs.Map.{Map, bucket_item}
@@ -33,18 +31,18 @@ use Rattle.laws.specs.Forest.{Holds, Raises, kids_of, put-raises, put-lowers, pu
 use Rattle.tracing.specs.Runs.{step_at, working_at, steps-same, count_same}
 
 -- the edited device, and the child of bucket b that is or holds it, told by its place
-pub record Holder (m : Map) (c : Change) (b : ℕ) : Type 0 where
+pub record Holder (m : Map) (c : Option Change) (b : ℕ) : Type 0 where
   pub device : ℕ
   pub weight : ℕ
-  pub edit : c ≡ Weight device weight
+  pub edit : c ≡ Some (Weight device weight)
   pub place : ℕ
   pub inside : place < length (children_of m b)
   pub holds : Holds (kids_of m) (get_or (children_of m b) place 0) device
 
-module _ (m : Map) (c : Change) (b : ℕ) (e : Holder m c b) where
+module _ (m : Map) (c : Option Change) (b : ℕ) (e : Holder m c b) where
   -- the draw's winner is that child
-  abbrev pub WonBy : Drawn → Type 0
-  WonBy d = d ≡ Winner (get_or (children_of m b) e.place 0)
+  abbrev pub WonBy : Option ℕ → Type 0
+  WonBy d = d ≡ Some (get_or (children_of m b) e.place 0)
 
   -- this of the old run where the device weighs more there, and that of the new where it weighs more there
   abbrev pub Heavier : Type 0 → Type 0 → Type 0
@@ -55,24 +53,24 @@ module _ (m : Map) (c : Change) (b : ℕ) (e : Holder m c b) where
   Forks x r light heavy = Fork S x r (bucket_item b) (weights_of light b) (weights_of heavy b) e.place (height_of (length (children_of m b))) 0
 
 -- 02: of two draws in bucket b with r', that in the old run ends in y and that in the new in z
-pub data Won (m : Map) (c : Change) (x r b : ℕ) (y z : Drawn) : Type 0 where
+pub data Won (m : Map) (c : Option Change) (x r b : ℕ) (y z : Option ℕ) : Type 0 where
   -- "the winner where the device weighs more is the child that holds or is it"
   straw : bucket_kind m b ≡ Straw → (e : Holder m c b) → Heavier m c b e (WonBy m c b e y) (WonBy m c b e z) → Won m c x r b y z
   -- "If only one run's draw finds none, the other run's winner is or holds that drive."
-  found : bucket_kind m b ≡ Tree → (e : Holder m c b) → Heavier m c b e (WonBy m c b e y × (z ≡ Nothing)) (WonBy m c b e z × (y ≡ Nothing)) → Won m c x r b y z
+  found : bucket_kind m b ≡ Tree → (e : Holder m c b) → Heavier m c b e (WonBy m c b e y × (z ≡ None)) (WonBy m c b e z × (y ≡ None)) → Won m c x r b y z
   -- "In a tree, cause 02 stands where two paths first part, and the run in which the edited drive weighs more turns to the side holding it."
-  forked : bucket_kind m b ≡ Tree → (y ≡ Nothing → ⊥) → (z ≡ Nothing → ⊥)
+  forked : bucket_kind m b ≡ Tree → (y ≡ None → ⊥) → (z ≡ None → ⊥)
       → (e : Holder m c b) → Heavier m c b e (Forks m c b e x r (put m c) m) (Forks m c b e x r m (put m c)) → Won m c x r b y z
 
 -- only an edit of weight does this
-pub won-edit : {m : Map} {c : Change} {x r b : ℕ} {y z : Drawn} → Won m c x r b y z → (d : ℕ) × (w : ℕ) × (c ≡ Weight d w)
+pub won-edit : {m : Map} {c : Option Change} {x r b : ℕ} {y z : Option ℕ} → Won m c x r b y z → (d : ℕ) × (w : ℕ) × (c ≡ Some (Weight d w))
 won-edit (straw k e h) = (e.device, e.weight, e.edit)
 won-edit (found k e h) = (e.device, e.weight, e.edit)
 won-edit (forked k p q e h) = (e.device, e.weight, e.edit)
 
 -- "If only one run's draw finds none, the other run's winner is or holds that drive.": in a bucket of either kind
-pub other-holds : {m : Map} {c : Change} {x r b : ℕ} {y z : Drawn} → Won m c x r b y z
-    → (y ≡ Nothing → (e : Holder m c b) × WonBy m c b e z) × (z ≡ Nothing → (e : Holder m c b) × WonBy m c b e y)
+pub other-holds : {m : Map} {c : Option Change} {x r b : ℕ} {y z : Option ℕ} → Won m c x r b y z
+    → (y ≡ None → (e : Holder m c b) × WonBy m c b e z) × (z ≡ None → (e : Holder m c b) × WonBy m c b e y)
 other-holds (straw k e (inl h)) = (λ q. absurd (let z : ◌≡◌ {A = ℕ} 0 1 = cc in omega arith), λ q. (e, h.1))
 other-holds (straw k e (inr h)) = (λ q. (e, h.1), λ q. absurd (let z : ◌≡◌ {A = ℕ} 0 1 = cc in omega arith))
 other-holds (found k e (inl h)) = (λ q. absurd (let z : ◌≡◌ {A = ℕ} 0 1 = cc in omega arith), λ q. (e, h.1.0))
@@ -81,8 +79,8 @@ other-holds (forked k p q e h) = (λ o. absurd (p o), λ o. absurd (q o))
 
 -- what an edit does to group x: only the edited device's acceptance test changes, after an edit of acceptance; and a draw changes only
 -- after an edit of weight, and then as `Won` says
-pub record Edited (m : Map) (c : Change) (x : ℕ) : Type 0 where
-  pub tests : (i : ℕ) → (accepted (view_of m) x i ≡ accepted (view_of (put m c)) x i) ⊎ ((a : ℕ) × (c ≡ Acceptance i a))
+pub record Edited (m : Map) (c : Option Change) (x : ℕ) : Type 0 where
+  pub tests : (i : ℕ) → (accepted (view_of m) x i ≡ accepted (view_of (put m c)) x i) ⊎ ((a : ℕ) × (c ≡ Some (Acceptance i a)))
   pub draws : (r b : ℕ) → (draw_at (view_of m) x r b ≡ draw_at (view_of (put m c)) x r b) ⊎ Won m c x r b (draw_at (view_of m) x r b) (draw_at (view_of (put m c)) x r b)
 
 module _ (m : Map) (x r b : ℕ) where
@@ -90,20 +88,20 @@ module _ (m : Map) (x r b : ℕ) where
   kids = children_of m b
 
   -- a draw by weights w of the children
-  abbrev draw_with : Kind → (ℕ → ℕ) → Drawn
+  abbrev draw_with : Kind → (ℕ → ℕ) → Option ℕ
   draw_with k w = draw_by k S x r (bucket_item b) kids (map w kids)
 
   draw-old : draw_at (view_of m) x r b ≡ draw_with (bucket_kind m b) (weight_of m)
   unfolding draw_at view_of weights_of
   draw-old = refl
 
-  draw-new : (c : Change) → draw_at (view_of (put m c)) x r b ≡ draw_with (bucket_kind m b) (weight_of (put m c))
+  draw-new : (c : Option Change) → draw_at (view_of (put m c)) x r b ≡ draw_with (bucket_kind m b) (weight_of (put m c))
   unfolding draw_at view_of
   draw-new c =
       ap (λ (k : Kind). draw_by k S x r (bucket_item b) (children_of (put m c) b) (weights_of (put m c) b)) (put-bucket-kind m c b)
       ∙ ap₂ (draw_by (bucket_kind m b) S x r (bucket_item b)) (put-children m c b) (put-weights m c b)
 
-  draw-keeps : (c : Change) → ((i : ℕ) → weight_of (put m c) i ≡ weight_of m i) → draw_at (view_of m) x r b ≡ draw_at (view_of (put m c)) x r b
+  draw-keeps : (c : Option Change) → ((i : ℕ) → weight_of (put m c) i ≡ weight_of m i) → draw_at (view_of m) x r b ≡ draw_at (view_of (put m c)) x r b
   draw-keeps c h =
       draw-old ∙ sym (draw-new c ∙ ap (draw_by (bucket_kind m b) S x r (bucket_item b) kids) (map-ext (weight_of (put m c)) (weight_of m) kids (λ i k. h i)))
 
@@ -113,9 +111,9 @@ module _ (m : Map) (x r b : ℕ) where
 
   -- how two draws of a bucket of this kind differ, where only the child at place p weighs more by w than by v
   data Differ (p : ℕ) (v w : ℕ → ℕ) : Kind → Type 0 where
-    in-straw : draw_with Straw w ≡ Winner (get_or kids p 0) → Differ p v w Straw
-    one-finds : draw_with Tree v ≡ Nothing → draw_with Tree w ≡ Winner (get_or kids p 0) → Differ p v w Tree
-    both-find : (draw_with Tree v ≡ Nothing → ⊥) → (draw_with Tree w ≡ Nothing → ⊥) → ForksAt p v w → Differ p v w Tree
+    in-straw : draw_with Straw w ≡ Some (get_or kids p 0) → Differ p v w Straw
+    one-finds : draw_with Tree v ≡ None → draw_with Tree w ≡ Some (get_or kids p 0) → Differ p v w Tree
+    both-find : (draw_with Tree v ≡ None → ⊥) → (draw_with Tree w ≡ None → ⊥) → ForksAt p v w → Differ p v w Tree
 
   module _ (L : Loadable m) (d : ℕ) (v w : ℕ → ℕ) (R : Raises (kids_of m) d v w) where
     draws-differ : (k : Kind) → (draw_with k v ≡ draw_with k w) ⊎ ((p : ℕ) × (p < length kids) × Holds (kids_of m) (get_or kids p 0) d × Differ p v w k)
@@ -125,7 +123,7 @@ module _ (m : Map) (x r b : ℕ) where
         (λ t.
         let (i, k, g, e) = t in
         let (p, s, q) = at_mem 0 k in
-        inr (p, s, rw q g, in-straw (e ∙ ap Winner (sym q))))
+        inr (p, s, rw q g, in-straw (e ∙ ap Some (sym q))))
         (draw-child m L d v w R S x r b)
     draws-differ Tree =
         ⊎_elim (λ e. inl (ap (λ (ws : List ℕ). tree_of S x r (bucket_item b) ws kids) e))
@@ -136,13 +134,13 @@ module _ (m : Map) (x r b : ℕ) where
         (child-heavier m L d v w R b)
 
   module _ (L : Loadable m) (d w : ℕ) (h : has_device m d ≡ true) where
-    abbrev c : Change
-    c = Weight d w
+    abbrev c : Option Change
+    c = Some (Weight d w)
 
-    abbrev y : Drawn
+    abbrev y : Option ℕ
     y = draw_at (view_of m) x r b
 
-    abbrev z : Drawn
+    abbrev z : Option ℕ
     z = draw_at (view_of (put m c)) x r b
 
     abbrev Claim : Type 0
@@ -187,7 +185,7 @@ module _ (m : Map) (x r b : ℕ) where
 
     draw-even : device_weight m d ≡ w → Claim
     draw-even e =
-        inl (draw-keeps (Weight d w)
+        inl (draw-keeps (Some (Weight d w))
         (λ i. omega (arith, (put-raises m d w h L (omega arith)).rises i, (put-lowers m d w h L (omega arith)).rises i)))
 
     draw-weighed : Claim
@@ -204,34 +202,34 @@ unfolding accepted device_accepts
 test_by v w x i p q = rw (p, q)
 
 test-accepted : (m : Map) (x d a : ℕ) → has_device m d ≡ true → (i : ℕ)
-    → (accepted (view_of m) x i ≡ accepted (view_of (put m (Acceptance d a))) x i) ⊎ ((e : ℕ) × (Acceptance d a ≡ Acceptance i e))
+    → (accepted (view_of m) x i ≡ accepted (view_of (put m (Some (Acceptance d a)))) x i) ⊎ ((e : ℕ) × (Some (Acceptance d a) ≡ Some (Acceptance i e)))
 unfolding view_of
 test-accepted m x d a h i = go (eqb i d) refl
   where
     go : (b : Bool) → eqb i d ≡ b
-        → (accepted (view_of m) x i ≡ accepted (view_of (put m (Acceptance d a))) x i) ⊎ ((e : ℕ) × (Acceptance d a ≡ Acceptance i e))
-    go true e = inr (a, ap (λ j. Acceptance j a) (sym (eqb-true i d e)))
-    go false e = inl (test_by (view_of m) (view_of (put m (Acceptance d a))) x i refl (sym (put-acceptance m d a h i ∙ rw e)))
+        → (accepted (view_of m) x i ≡ accepted (view_of (put m (Some (Acceptance d a)))) x i) ⊎ ((e : ℕ) × (Some (Acceptance d a) ≡ Some (Acceptance i e)))
+    go true e = inr (a, ap (λ j. Some (Acceptance j a)) (sym (eqb-true i d e)))
+    go false e = inl (test_by (view_of m) (view_of (put m (Some (Acceptance d a)))) x i refl (sym (put-acceptance m d a h i ∙ rw e)))
 
-test-weighed : (m : Map) (x d w i : ℕ) → accepted (view_of m) x i ≡ accepted (view_of (put m (Weight d w))) x i
+test-weighed : (m : Map) (x d w i : ℕ) → accepted (view_of m) x i ≡ accepted (view_of (put m (Some (Weight d w)))) x i
 unfolding view_of
-test-weighed m x d w i = test_by (view_of m) (view_of (put m (Weight d w))) x i refl (sym (weight-leaves-acceptance m d w i))
+test-weighed m x d w i = test_by (view_of m) (view_of (put m (Some (Weight d w)))) x i refl (sym (weight-leaves-acceptance m d w i))
 
 -- a fitting edit of a loadable map does this and no more
-pub edited : (m : Map) (c : Change) → Loadable m → fits m c ≡ true → (x : ℕ) → Edited m c x
+pub edited : (m : Map) (c : Option Change) → Loadable m → fits m c ≡ true → (x : ℕ) → Edited m c x
 unfolding fits
-edited m (Acceptance d a) L f x =
+edited m (Some (Acceptance d a)) L f x =
     record {
       tests = test-accepted m x d a (both (has_device m d) (leb a 65536) f).0;
-      draws = λ r b. inl (draw-keeps m x r b (Acceptance d a) (acceptance-leaves-weights m d a));
+      draws = λ r b. inl (draw-keeps m x r b (Some (Acceptance d a)) (acceptance-leaves-weights m d a));
     }
-edited m (Weight d w) L f x =
+edited m (Some (Weight d w)) L f x =
     record { tests = λ i. inl (test-weighed m x d w i); draws = λ r b. draw-weighed m x r b L d w (both (has_device m d) (leb w 65535) f).0 }
-edited m Malformed L f x = absurd (false≢true f)
+edited m None L f x = absurd (false≢true f)
 
 -- ---- what an edit leaves as it is
 
-module _ (m : Map) (c : Change) where
+module _ (m : Map) (c : Option Change) where
   -- the types
   pub put-types : (i : ℕ) → (view_of m).type i ≡ (view_of (put m c)).type i
   unfolding view_of

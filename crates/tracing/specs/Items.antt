@@ -1,5 +1,5 @@
 -- What a place holds: in an independent select its item is its entry, so that there cause 03 speaks of entries. Assumes nothing.
-use Rattle.std.specs.Prelude.{◌≡◌, Bool, cond, List, ◌++◌, eqb, length, take}
+use Rattle.std.specs.Prelude.{◌≡◌, Bool, cond, List, ◌++◌, eqb, length, take, Option, None, Some}
 use Rattle.std.proofs.Math.Path.{refl}
 use Rattle.std.proofs.Math.Bool.{true, false}
 use Prim.Native.Nat.{ℕ, zero, suc, ◌/◌, ◌%◌, ◌+◌, ◌<◌}
@@ -8,8 +8,6 @@ use Rattle.std.proofs.Common.{arith}
 use Rattle.definitions.specs.declared.Mode.{Mode}
 use Rattle.definitions.specs.declared.Mode.TheVariants.{Independent}
 use Rattle.definitions.specs.declared.Action.TheVariants.{Select}
-use Rattle.definitions.specs.declared.Drawn.{Drawn}
-use Rattle.definitions.specs.declared.Drawn.TheVariants.{Winner, Nothing}
 use Rattle.definitions.specs.declared.Event.{Event}
 use Rattle.definitions.specs.declared.State.{State}
 use Rattle.definitions.specs.declared.Turn.{Turn}
@@ -34,10 +32,10 @@ module _ (v : View) (x : ℕ) (mode : Mode) (n t : ℕ) (held : List ℕ) (start
   verdict-itself s b i k Rejected = tt
   verdict-itself s b i k Passed = refl
 
-  landed-itself : (s : State) (q b : ℕ) (es : List Event) (d : Drawn) → Itself (on_landed v x mode n t (plain_test v x held) start r s q b es d).turn
+  landed-itself : (s : State) (q b : ℕ) (es : List Event) (d : Option ℕ) → Itself (on_landed v x mode n t (plain_test v x held) start r s q b es d).turn
   unfolding on_landed on_type tested untested on_tried plain_test plain
-  landed-itself s q b es Nothing = tt
-  landed-itself s q b es (Winner i) = go (eqb (v.type i) t)
+  landed-itself s q b es None = tt
+  landed-itself s q b es (Some i) = go (eqb (v.type i) t)
     where
       go : (u : Bool) → Itself (on_type v x mode n t (plain_test v x held) start r s q b es i u).turn
       go true = verdict-itself s b i 0 (verdict_of v x held i)

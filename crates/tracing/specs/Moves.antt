@@ -1,7 +1,7 @@
 -- Document 01, "Table, edits, moves": the moves of a fitting edit are those of the places whose entries differ, in their order, each with
 -- its old and new entry; a move's own walks first part where its cause stands, and that is traced to the edited device. (That all of this holds
 -- of the moves of a fitting edit: `moves-traced` of proofs/Moves.antt.) Assumes nothing.
-use Rattle.std.specs.Prelude.{◌≡◌, Bool, true, false, cond, ◌&&◌, ◌||◌, eqb, ltb, length, get_or}
+use Rattle.std.specs.Prelude.{◌≡◌, Bool, true, false, cond, ◌&&◌, ◌||◌, eqb, ltb, length, get_or, Option}
 use Rattle.std.proofs.Math.Path.{refl, sym, ap, subst}
 use Rattle.std.proofs.Common.{◌∙◌, eq-or-lt_of_le, ne_eqb, eq-eqb, lt-ltb, le-ltb, length-append}
 use mathlib.Core.List.Memᴰ
@@ -205,7 +205,7 @@ moves-rise w olds news (suc n) =
 
 -- a move of an edit: its group and place, the place's entries in the tables before and after it, which differ, and its cause, traced at
 -- the place of the working list that the place of the list comes from
-pub record Moved (m : Map) (c : Change) (v : Move) : Type 0 where
+pub record Moved (m : Map) (c : Option Change) (v : Move) : Type 0 where
   pub group : v.group < m.groups
   pub index : ℕ
   pub within : index < width_of m
@@ -224,7 +224,7 @@ pub record Moved (m : Map) (c : Change) (v : Move) : Type 0 where
   pub parts : Caused (listed_at m v.group index).walk (listed_at (put m c) v.group index).walk v.cause
 
 -- the moves of an edit: each is traced; every place whose entries differ has one, and no more; and they rise
-pub record MovesTraced (m : Map) (c : Change) (moves : List Move) : Type 0 where
+pub record MovesTraced (m : Map) (c : Option Change) (moves : List Move) : Type 0 where
   pub each : (v : Move) → Memᴰ v moves → Moved m c v
   pub all : (g j : ℕ) → g < m.groups → j < width_of m → (entry_at m g j ≡ entry_at (put m c) g j → ⊥)
       → (v : Move) × Memᴰ v moves × (v.group ≡ g) × (v.place ≡ j + 1)

@@ -1,6 +1,6 @@
 -- Document 01, "Table, edits, moves": two walks of one rank, in two runs on views of the same types, are equal or part at one event.
 -- Assumes nothing.
-use Rattle.std.specs.Prelude.{◌≡◌, Bool, cond, ◌⊎◌, ltb, eqb}
+use Rattle.std.specs.Prelude.{◌≡◌, Bool, cond, ◌⊎◌, ltb, eqb, Option, None, Some}
 use Rattle.std.proofs.Math.Path.{refl, sym, subst}
 use Rattle.std.proofs.Common.{ap, ◌∙◌, arith}
 use Rattle.std.proofs.Math.Bool.{true, false}
@@ -10,8 +10,6 @@ use Prim.Native.Nat.{ℕ, zero, suc}
 use Rattle.std.proofs.Math.Decide.{ℕ_discrete}
 use Rattle.definitions.specs.declared.Mode.{Mode}
 use Rattle.definitions.specs.declared.Mode.TheVariants.{FirstN, Independent, Through}
-use Rattle.definitions.specs.declared.Drawn.{Drawn}
-use Rattle.definitions.specs.declared.Drawn.TheVariants.{Winner, Nothing}
 use Rattle.definitions.specs.declared.Verdict.{Verdict}
 use Rattle.definitions.specs.declared.Verdict.TheVariants.{Held, Rejected, Passed}
 use Rattle.definitions.specs.declared.Event.{Event}
@@ -25,14 +23,14 @@ use Rattle.definitions.specs.Lists.{has}
 use Rattle.definitions.specs.Walk.{Descent, draw_at, landing, deeper, on_winner, on_drawn, descend_in, descend, verdict_of, Trial, plain, plain_test, TurnEvents, RankEvents, try_number, rank_start, tested, untested, onward, after_turn, on_turn, on_type, on_landed, on_descent, turn_of, rank_from, rank_by, inner_walk, sought, through_by, through_test, test_of, rank_of}
 
 -- two draws end alike or not
-pub drawn-same : (y z : Drawn) → (y ≡ z) ⊎ (y ≡ z → ⊥)
-drawn-same Nothing Nothing = inl refl
-drawn-same Nothing (Winner j) = inr (λ e. let z : ◌≡◌ {A = ℕ} 0 1 = cc in omega arith)
-drawn-same (Winner i) Nothing = inr (λ e. let z : ◌≡◌ {A = ℕ} 0 1 = cc in omega arith)
-drawn-same (Winner i) (Winner j) = go (ℕ_discrete i j)
+pub drawn-same : (y z : Option ℕ) → (y ≡ z) ⊎ (y ≡ z → ⊥)
+drawn-same None None = inl refl
+drawn-same None (Some j) = inr (λ e. let z : ◌≡◌ {A = ℕ} 0 1 = cc in omega arith)
+drawn-same (Some i) None = inr (λ e. let z : ◌≡◌ {A = ℕ} 0 1 = cc in omega arith)
+drawn-same (Some i) (Some j) = go (ℕ_discrete i j)
   where
-    go : Dec (i ≡ j) → (Winner i ≡ Winner j) ⊎ (Winner i ≡ Winner j → ⊥)
-    go (yes e) = inl (ap Winner e)
+    go : Dec (i ≡ j) → (Some i ≡ Some j) ⊎ (Some i ≡ Some j → ⊥)
+    go (yes e) = inl (ap Some e)
     go (no f) = inr (λ e. f (let g : i ≡ j = cc in g))
 
 -- two tests end alike or not
@@ -90,7 +88,7 @@ at-no-prefix a d y = (
 module _ (v₁ v₂ : View) (x : ℕ) (h₁ h₂ : List ℕ) where
   -- two events of one kind, at the same bucket and r' or of the same item, with different ends
   pub data Apart : Event → Event → Type 0 where
-    draws : {b r : ℕ} {y z : Drawn} → y ≡ draw_at v₁ x r b → z ≡ draw_at v₂ x r b → (y ≡ z → ⊥) → Apart (Drew b r y) (Drew b r z)
+    draws : {b r : ℕ} {y z : Option ℕ} → y ≡ draw_at v₁ x r b → z ≡ draw_at v₂ x r b → (y ≡ z → ⊥) → Apart (Drew b r y) (Drew b r z)
     tests : {i : ℕ} {u w : Verdict} → u ≡ verdict_of v₁ x h₁ i → w ≡ verdict_of v₂ x h₂ i → (u ≡ w → ⊥) → Apart (Tested i u) (Tested i w)
     -- the held test of a select through: the item is held in one run only
     held : {i : ℕ} {u w : Verdict} → ((has i h₁ ≡ true) × (has i h₂ ≡ false)) ⊎ ((has i h₁ ≡ false) × (has i h₂ ≡ true))
@@ -129,24 +127,24 @@ module _ (v₁ v₂ : View) (x : ℕ) (h₁ h₂ : List ℕ) where
 
     module _ (t r : ℕ) where
       -- a descent's first event is its draw
-      drawn-first : (v : View) (go : ℕ → Descent) (b : ℕ) (d : Drawn) → (es : List Event) × ((on_drawn v x t r go b d).events ≡ Drew b r d ∷ es)
+      drawn-first : (v : View) (go : ℕ → Descent) (b : ℕ) (d : Option ℕ) → (es : List Event) × ((on_drawn v x t r go b d).events ≡ Drew b r d ∷ es)
       unfolding on_drawn on_winner deeper landing
-      drawn-first v go b Nothing = ([], refl)
-      drawn-first v go b (Winner i) = by-type (ltb t (v.type i))
+      drawn-first v go b None = ([], refl)
+      drawn-first v go b (Some i) = by-type (ltb t (v.type i))
         where
-          by-type : (u : Bool) → (es : List Event) × ((on_winner go r b i u).events ≡ Drew b r (Winner i) ∷ es)
+          by-type : (u : Bool) → (es : List Event) × ((on_winner go r b i u).events ≡ Drew b r (Some i) ∷ es)
           by-type true = ((go (bucket_number i)).events, refl)
           by-type false = ([], refl)
 
       -- equal draws lead to descents that agree
-      same-drawn : (f g : ℕ → Descent) → ((b : ℕ) → Agree (f b) (g b)) → (b : ℕ) (d : Drawn) → Agree (on_drawn v₁ x t r f b d) (on_drawn v₂ x t r g b d)
+      same-drawn : (f g : ℕ → Descent) → ((b : ℕ) → Agree (f b) (g b)) → (b : ℕ) (d : Option ℕ) → Agree (on_drawn v₁ x t r f b d) (on_drawn v₂ x t r g b d)
       unfolding on_drawn on_winner deeper
-      same-drawn f g h b Nothing = inl refl
-      same-drawn f g h b (Winner i) = rw (← types i) (by-type (ltb t (v₁.type i)))
+      same-drawn f g h b None = inl refl
+      same-drawn f g h b (Some i) = rw (← types i) (by-type (ltb t (v₁.type i)))
         where
           by-type : (u : Bool) → Agree (on_winner f r b i u) (on_winner g r b i u)
           by-type true =
-              ⊎_elim (λ q. inl (ap (deeper r b (Winner i)) q)) (λ p. inr (parts-after (Drew b r (Winner i) ∷ []) p)) (h (bucket_number i))
+              ⊎_elim (λ q. inl (ap (deeper r b (Some i)) q)) (λ p. inr (parts-after (Drew b r (Some i) ∷ []) p)) (h (bucket_number i))
           by-type false = inl refl
 
       descents-in : (k b : ℕ) → Agree (descend_in v₁ x t r k b) (descend_in v₂ x t r k b)
@@ -154,7 +152,7 @@ module _ (v₁ v₂ : View) (x : ℕ) (h₁ h₂ : List ℕ) where
       descents-in zero b = inl refl
       descents-in (suc k) b = go (draw_at v₁ x r b) (draw_at v₂ x r b) refl refl (descents-in k)
         where
-          go : (y z : Drawn) → y ≡ draw_at v₁ x r b → z ≡ draw_at v₂ x r b
+          go : (y z : Option ℕ) → y ≡ draw_at v₁ x r b → z ≡ draw_at v₂ x r b
               → ((c : ℕ) → Agree (descend_in v₁ x t r k c) (descend_in v₂ x t r k c))
               → Agree (on_drawn v₁ x t r (descend_in v₁ x t r k) b y) (on_drawn v₂ x t r (descend_in v₂ x t r k) b z)
           go y z p q rest =
@@ -193,9 +191,9 @@ module _ (v₁ v₂ : View) (x : ℕ) (h₁ h₂ : List ℕ) where
           by-type i true = ((h q i).events, refl)
           by-type i false = ([], sym (append-nil d.events))
 
-          by-drawn : (y : Drawn) → (es : List Event) × ((on_landed v x mode n t h start r s q d.landed.bucket d.events y).events ≡ d.events ++ es)
-          by-drawn Nothing = ([], sym (append-nil d.events))
-          by-drawn (Winner i) = by-type i (eqb (v.type i) t)
+          by-drawn : (y : Option ℕ) → (es : List Event) × ((on_landed v x mode n t h start r s q d.landed.bucket d.events y).events ≡ d.events ++ es)
+          by-drawn None = ([], sym (append-nil d.events))
+          by-drawn (Some i) = by-type i (eqb (v.type i) t)
 
       -- equal descents lead to turns that agree
       same-descent : (s : State) (q : ℕ) (d : Descent)
@@ -216,11 +214,11 @@ module _ (v₁ v₂ : View) (x : ℕ) (h₁ h₂ : List ℕ) where
           by-type i true = ⊎_elim (λ p. inl (ap (tested start s b es i) p)) (λ p. inr (parts-after es p)) (tests-part q i)
           by-type i false = inl refl
 
-          by-drawn : (y : Drawn)
+          by-drawn : (y : Option ℕ)
               → (on_landed v₁ x mode n t f start r s q b es y ≡ on_landed v₂ x mode n t g start r s q b es y)
               ⊎ Parts (on_landed v₁ x mode n t f start r s q b es y).events (on_landed v₂ x mode n t g start r s q b es y).events
-          by-drawn Nothing = inl refl
-          by-drawn (Winner i) = rw (← types i) (by-type i (eqb (v₁.type i) t))
+          by-drawn None = inl refl
+          by-drawn (Some i) = rw (← types i) (by-type i (eqb (v₁.type i) t))
 
       turns : (s : State) → (T₁ s ≡ T₂ s) ⊎ Parts (T₁ s).events (T₂ s).events
       unfolding turn_of

@@ -1,6 +1,6 @@
 -- Document 01, "Walk, select and rule": the working list of a group's run, step by step, and the places of a select that leaves holes, one by
 -- one: each is made from the place above it, after the places before it. Assumes nothing.
-use Rattle.std.specs.Prelude.{◌≡◌, Bool, cond, ◌||◌, ◌⊎◌, eqb, length, get_or, take, replicate}
+use Rattle.std.specs.Prelude.{◌≡◌, Bool, cond, ◌||◌, ◌⊎◌, eqb, length, get_or, take, replicate, Option, None, Some}
 use Rattle.std.proofs.Math.Path.{refl, sym, ap}
 use Rattle.std.proofs.Common.{ap₂, ◌∙◌, inl, inr, ⊎_elim, eq-or-lt_of_le, add-suc, div-lt_iff_lt-mul, eqb-true, eq-eqb, length-append, take_at}
 use Rattle.std.proofs.Math.Bool.{true, false}
@@ -17,8 +17,6 @@ use Rattle.definitions.specs.declared.Mode.{Mode}
 use Rattle.definitions.specs.declared.Mode.TheVariants.{FirstN, Independent, Through}
 use Rattle.definitions.specs.declared.Action.{Action}
 use Rattle.definitions.specs.declared.Action.TheVariants.{Take, Select, Emit, Idle}
-use Rattle.definitions.specs.declared.Drawn.{Drawn}
-use Rattle.definitions.specs.declared.Drawn.TheVariants.{Winner, Nothing}
 use Rattle.definitions.specs.declared.Verdict.{Verdict}
 use Rattle.definitions.specs.declared.Verdict.TheVariants.{Held, Rejected, Passed}
 use Rattle.definitions.specs.declared.Event.{Event}
@@ -62,12 +60,12 @@ module _ (v : View) (x : ℕ) (mode : Mode) (n t : ℕ) (test : ℕ → ℕ → 
 
   -- after a turn
   landed-alike : (go : State → RankEvents) → ((a k f g j : ℕ) → Alike (go (at_with a k f j)) (go (at_with a k g j)))
-      → (a k f g j q b : ℕ) (es : List Event) (d : Drawn)
+      → (a k f g j q b : ℕ) (es : List Event) (d : Option ℕ)
       → Alike (on_turn go (at_with a k f j) (on_landed v x mode n t test start r (at_with a k f j) q b es d))
       (on_turn go (at_with a k g j) (on_landed v x mode n t test start r (at_with a k g j) q b es d))
   unfolding on_turn on_landed on_type untested tested on_tried on_verdict after_turn onward failed_to retry_at rank_end
-  landed-alike go h a k f g j q b es Nothing = let o = h start (k + 1) (f + 1) (g + 1) (j + 0) in (o.0, o.1, ap (λ l. es ++ l) o.2)
-  landed-alike go h a k f g j q b es (Winner i) = by-type (eqb (v.type i) t)
+  landed-alike go h a k f g j q b es None = let o = h start (k + 1) (f + 1) (g + 1) (j + 0) in (o.0, o.1, ap (λ l. es ++ l) o.2)
+  landed-alike go h a k f g j q b es (Some i) = by-type (eqb (v.type i) t)
     where
       fails : (c m : ℕ) (fs : List Event) → Alike (onward fs (go (at_with c (k + 1) (f + 1) (j + m)))) (onward fs (go (at_with c (k + 1) (g + 1) (j + m))))
       fails c m fs = let o = h c (k + 1) (f + 1) (g + 1) (j + m) in (o.0, o.1, ap (λ l. fs ++ l) o.2)

@@ -1,6 +1,6 @@
 -- Document 01, "Table, edits, moves": when the cause of a place's change is traced to the edited device. (Every place of every select is the
 -- same in the old run and in the new, or its cause is so traced: `traced` of proofs/Traced.antt.) Assumes nothing.
-use Rattle.std.specs.Prelude.{◌≡◌, Bool, cond, ◌⊎◌}
+use Rattle.std.specs.Prelude.{◌≡◌, Bool, cond, ◌⊎◌, Option, Some}
 use Rattle.std.proofs.Math.Path.{refl, sym}
 use Rattle.std.proofs.Common.{◌∙◌}
 use Rattle.std.proofs.Math.Bool.{true}
@@ -11,7 +11,6 @@ use Prim.Native.Nat.{ℕ, suc, ◌/◌, ◌≤◌}
 use native.Mathlib.Omega.{arith}
 use Rattle.definitions.specs.declared.Mode.{Mode}
 use Rattle.definitions.specs.declared.Action.TheVariants.{Select, Emit, Idle}
-use Rattle.definitions.specs.declared.Drawn.{Drawn}
 use Rattle.definitions.specs.declared.Verdict.{Verdict}
 use Rattle.definitions.specs.declared.Verdict.TheVariants.{Held, Rejected, Passed}
 use Rattle.definitions.specs.declared.Event.{Event}
@@ -33,7 +32,7 @@ abbrev pub judge : Bool → Verdict
 judge b = cond b Passed Rejected
 
 -- an edit c of map m, and the group x
-module _ (m : Map) (c : Change) (x : ℕ) where
+module _ (m : Map) (c : Option Change) (x : ℕ) where
   -- place p of the working list after k steps, on the map before the edit
   abbrev pub old : ℕ → ℕ → Place
   old k p = place_at m x k p
@@ -63,12 +62,12 @@ module _ (m : Map) (c : Change) (x : ℕ) where
     -- an emit, or no step at all, leaves the working list as it is
     stays : {k p cause : ℕ} → (step_at m k ≡ Emit) ⊎ (step_at m k ≡ Idle) → Traced k p cause → Traced (suc k) p cause
     -- 01: after an edit of its acceptance, device d passed acceptance in one run only, as `accepted` says of each
-    accept : {k p n d a : ℕ} {u w : Verdict} → c ≡ Acceptance d a → Here k p n (Tested d u) (Tested d w)
+    accept : {k p n d a : ℕ} {u w : Verdict} → c ≡ Some (Acceptance d a) → Here k p n (Tested d u) (Tested d w)
         → ((u ≡ Passed) × (w ≡ Rejected)) ⊎ ((u ≡ Rejected) × (w ≡ Passed))
         → (u ≡ judge (accepted (view_of m) x d)) × (w ≡ judge (accepted (view_of (put m c)) x d)) → Traced (suc k) p 1
     -- 02: after an edit of weight, the draws differ, as `Won` says: in a straw bucket the winner where the device weighs more is the child
     -- that is or holds it; in a tree that run turns to its side, or alone finds a child
-    drawn : {k p n b r : ℕ} {y z : Drawn} → Here k p n (Drew b r y) (Drew b r z) → (y ≡ z → ⊥) → Won m c x r b y z → Traced (suc k) p 2
+    drawn : {k p n b r : ℕ} {y z : Option ℕ} → Here k p n (Drew b r y) (Drew b r z) → (y ≡ z → ⊥) → Won m c x r b y z → Traced (suc k) p 2
     -- 03: the item was held in the old run only: of the places before where it is looked for, one alone holds it there and none in the new
     -- run, and the cause of that one is traced
     held-old : {k p n l q i cause : ℕ} {w : Verdict} → Here k p n (Tested i Held) (Tested i w) → (w ≡ Held → ⊥)
@@ -84,7 +83,7 @@ at_old {e} a = rw a.old-is (Memᴰ.append_right a.before (Memᴰ.head refl))
 pub at_new : {es fs : List Event} {e f : Event} → At es fs e f → Memᴰ f fs
 at_new a = rw a.new_is (Memᴰ.append_right a.before (Memᴰ.head refl))
 
-module _ (m : Map) (c : Change) (x : ℕ) where
+module _ (m : Map) (c : Option Change) (x : ℕ) where
   -- place q after l steps is what place p after k steps is led back to: by way of the place above it, or of a place before where an item is
   -- looked for and that does not hold it in both runs
   pub data Leads (l q : ℕ) : ℕ → ℕ → Type 0 where
@@ -113,7 +112,7 @@ module _ (m : Map) (c : Change) (x : ℕ) where
   cause-range (held_new h f a b t) = (omega arith, omega arith)
 
   -- 01 only after an edit of acceptance
-  pub accept-only : {k p cause : ℕ} → Traced m c x k p cause → cause ≡ 1 → (d : ℕ) × (a : ℕ) × (c ≡ Acceptance d a)
+  pub accept-only : {k p cause : ℕ} → Traced m c x k p cause → cause ≡ 1 → (d : ℕ) × (a : ℕ) × (c ≡ Some (Acceptance d a))
   accept-only (above e lv t) q = accept-only t q
   accept-only (stays e t) q = accept-only t q
   accept-only (accept {d} {a} e h w j) q = (d, a, e)
@@ -122,7 +121,7 @@ module _ (m : Map) (c : Change) (x : ℕ) where
   accept-only (held_new h f a b t) q = absurd (omega arith)
 
   -- 02 only after an edit of weight
-  pub drawn-only : {k p cause : ℕ} → Traced m c x k p cause → cause ≡ 2 → (d : ℕ) × (w : ℕ) × (c ≡ Weight d w)
+  pub drawn-only : {k p cause : ℕ} → Traced m c x k p cause → cause ≡ 2 → (d : ℕ) × (w : ℕ) × (c ≡ Some (Weight d w))
   drawn-only (above e lv t) q = drawn-only t q
   drawn-only (stays e t) q = drawn-only t q
   drawn-only (accept e h w j) q = absurd (omega arith)

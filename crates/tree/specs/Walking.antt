@@ -1,17 +1,16 @@
 -- The walk from the root to a leaf, by sums: a node weighs the difference of what is before it and before its end. Assumes nothing.
 use Rattle.std.proofs.Math.Path.{◌≡◌, refl, subst}
 use Rattle.std.proofs.Common.{sym, ap, ◌∙◌, zero-mul, pow_mono}
-use Rattle.std.specs.Prelude.{Bool, cond, List, ltb, get_or}
+use Rattle.std.specs.Prelude.{max, Bool, cond, List, ltb, get_or, Option, None, Some}
 use Rattle.std.proofs.Math.Bool.{true, false}
 use Prim.Native.Nat.{ℕ, zero, suc, ◌+◌, ◌-◌, ◌*◌, ◌/◌, ◌%◌, ◌^◌, ◌<◌, ◌≤◌}
 use Rattle.std.proofs.Math.Nat.{pow-zero, pow-suc, sub-zero}
 use Rattle.std.proofs.Math.Decide.{dec_lt}
+use Rattle.std.specs.Int.{IsPowerOfTwo}
 use native.Mathlib.Omega.{arith}
 use borrow.Author.Tests.{ltb-true, ltb-false, lt-ltb, le-ltb, ne_eqb}
 use Rattle.std.proofs.Math.ListN.{length, get_or-eq_default}
 use Rattle.std.proofs.Math.Pow.{pow_pos}
-use Rattle.definitions.specs.declared.Drawn.{Drawn}
-use Rattle.definitions.specs.declared.Drawn.TheVariants.{Winner, Nothing}
 use Rattle.definitions.specs.Hash.{hash4}
 use Rattle.definitions.specs.Tree.{label_of, height_to, height_of, node_weight, turns_left, node_below, leaf_from, tree_by, tree_of}
 use Rattle.laws.specs.Tree.{height-room, height-least, leaf-above, leaf-inside}
@@ -24,32 +23,18 @@ use Rattle.tree.specs.declared.Node.{Node}
 pub leaves-most : (n : ℕ) → n ≤ 64 → 2 ^ height_of n ≤ 64
 leaves-most n h = omega (arith, pow_mono {i = height_of n} {j = 6} (height-least n 6 h))
 
--- a power of two that doubles while it is less than n, and never goes beyond the root's
-pub record Grows (n span : ℕ) : Type 0 where
-  pub height : ℕ
-  pub is : span ≡ 2 ^ height
-  pub most : height ≤ height_of n
-
-pub grows_none : (n : ℕ) → Grows n 1
-grows_none n = record { height = 0; is = sym (pow-zero 2); most = omega arith }
-
-pub grows-more : (n span : ℕ) → Grows n span → span < n → Grows n (2 * span)
-grows-more n span g l =
-    record {
-      height = suc g.height;
-      is = omega (arith, g.is, pow-suc 2 g.height);
-      most = by (dec_lt g.height (height_of n));
-    }
+-- the least power of two with room for the children is the root's label
+pub root-label : (n span : ℕ) → IsPowerOfTwo span → n ≤ span → span / 2 < max 1 n → span ≡ 2 ^ height_of n
+root-label n span (k, e) h l = e ∙ ap (λ (j : ℕ). 2 ^ j) (go k e)
   where
-    by : Dec (g.height < height_of n) → suc g.height ≤ height_of n
-    by (yes h) = h
-    by (no f) = absurd (omega (arith, l, g.is, height-room n, pow_mono {i = height_of n} {j = g.height} (omega arith)))
-
-pub grows_end : (n span : ℕ) → Grows n span → n ≤ span → span ≡ 2 ^ height_of n
-grows_end n span g h =
-    let l : height_of n ≤ g.height = height-least n g.height (omega (arith, h, g.is)) in
-    let e : g.height ≡ height_of n = omega (arith, l, g.most) in
-    g.is ∙ ap (λ (j : ℕ). 2 ^ j) e
+    go : (k : ℕ) → span ≡ 2 ^ k → k ≡ height_of n
+    go zero e = omega (arith, height-least n 0 (omega (arith, h, e)))
+    go (suc j) e = by (dec_lt j (height_of n))
+      where
+        by : Dec (j < height_of n) → suc j ≡ height_of n
+        by (yes r) = omega (arith, r, height-least n (suc j) (omega (arith, h, e)))
+        by (no f) =
+            absurd (omega (arith, e, l, pow-suc 2 j, pow_pos j, height-room n, pow_mono {i = height_of n} {j = j} (omega arith)))
 
 -- where the leaves on the two sides of node k begin
 begins-left : (j k : ℕ) → k * 2 ^ suc j ≡ 2 * k * 2 ^ j
@@ -67,6 +52,14 @@ module _ (sums : List ℕ) where
   -- the weights of the children
   abbrev pub weights : List ℕ
   weights = weights_from sums n
+
+  -- where they weigh anything there are some
+  pub some-weigh : (total_in sums ≡ 0 → ⊥) → 0 < n
+  some-weigh f = by (dec_lt 0 n)
+    where
+      by : Dec (0 < n) → 0 < n
+      by (yes h) = h
+      by (no g) = absurd (f (get_or-eq_default sums 0 {n = n - 1} (omega arith)))
 
   -- what is before each place of a node of weight 0
   before-even : (i h : ℕ) → before sums i h h ≡ h
@@ -295,7 +288,7 @@ module _ (seed x r item : ℕ) (sums : List ℕ) where
   -- ---- the draw
 
   module _ (items : List ℕ) (paired : length sums ≡ length items) where
-    abbrev drawn : Drawn
+    abbrev drawn : Option ℕ
     drawn = tree_of seed x r item (weights_from sums (length items)) items
 
     total-is : 0 < length sums → node_weight ws (height_of (length sums)) 0 ≡ total_in sums
@@ -303,21 +296,28 @@ module _ (seed x r item : ℕ) (sums : List ℕ) where
         node-weighs sums (height_of (length sums)) 0 0 0 (total_in sums) (omega arith) (omega arith) (λ i l u. leaf-is sums h i (omega arith))
         ∙ sub-zero (total_in sums)
 
-    pub draw-empty : length sums ≡ 0 → Nothing ≡ drawn
+    draw-empty : length sums ≡ 0 → None ≡ drawn
     unfolding tree_of tree_by height_of height_to node_weight weights_from firsts_of
     draw-empty e = let z : length items ≡ 0 = omega (arith, paired, e) in rw z
 
-    pub draw-none : 0 < length sums → total_in sums ≡ 0 → Nothing ≡ drawn
+    draw-weightless : 0 < length sums → total_in sums ≡ 0 → None ≡ drawn
     unfolding tree_of tree_by
-    draw-none h e = rw (← paired, total-is h, e)
+    draw-weightless h e = rw (← paired, total-is h, e)
 
-    module _ (h : 0 < length sums) (f : total_in sums ≡ 0 → ⊥) (k : ℕ) (e : k ≡ leaf (height_of (length sums)) 0) where
+    pub draw-none : total_in sums ≡ 0 → None ≡ drawn
+    draw-none e = go (dec_lt 0 (length sums))
+      where
+        go : Dec (0 < length sums) → None ≡ drawn
+        go (yes h) = draw-weightless h e
+        go (no f) = draw-empty (omega arith)
+
+    module _ (f : total_in sums ≡ 0 → ⊥) (k : ℕ) (e : k ≡ leaf (height_of (length sums)) 0) where
       pub draw-inside : k < length items
       unfolding weights_from
       draw-inside =
-          let p = leaf-above seed x r item ws (height_of (length sums)) 0 (omega (arith, total-is h, f)) in
+          let p = leaf-above seed x r item ws (height_of (length sums)) 0 (omega (arith, total-is (some-weigh sums f), f)) in
           omega (arith, leaf-inside ws (leaf (height_of (length sums)) 0) p, firsts_of-length (length sums) (leaf_weight sums (height_of (length sums)) 0 0 (total_in sums)), paired, e)
 
-      pub draw-won : Winner (get_or items k 0) ≡ drawn
+      pub draw-won : Some (get_or items k 0) ≡ drawn
       unfolding tree_of tree_by
-      draw-won = rw (← paired, total-is h, ne_eqb (total_in sums) 0 f, e) (ap (λ (n : ℕ). Winner (get_or items (leaf (height_of n) 0) 0)) paired)
+      draw-won = rw (← paired, total-is (some-weigh sums f), ne_eqb (total_in sums) 0 f, e) (ap (λ (n : ℕ). Some (get_or items (leaf (height_of n) 0) 0)) paired)

@@ -1,13 +1,11 @@
 // Change 4: the draw of a tree bucket: from the root to a leaf, with one hash of four at each node.
 #![tactic(auto)]
 
-ghost use Rattle.std.specs.Prelude.{◌≡◌, min, max, ◌+◌, ◌*◌, ◌/◌, ◌^◌, ◌<◌, ◌≤◌, ltb, length};
+ghost use Rattle.std.specs.Prelude.{◌≡◌, ◌+◌, ◌*◌, ◌/◌, ◌^◌, ◌<◌, ◌≤◌, ltb, length};
 ghost use Rattle.definitions.specs.Hash.{hash4};
 ghost use Rattle.definitions.specs.Tree.{height_of, leaf_from, tree_of};
 ghost use Rattle.hierarchy.specs.Sums.{before, total_in, weights_from};
 ghost use Rattle.tree.specs.Walking.{turned};
-
-use definitions::Drawn;
 
 // The draw of group x with try number r at the bucket of this item number.
 #[derive(Clone, Copy)]
@@ -31,22 +29,8 @@ fn turns_left(q: Asked, label: u32, weight: u32, left: u32) -> bool
     ensures { result ≡ ltb (hash4 q.seed q.x label q.r q.item * weight / 2 ^ 32) left }
 {
     let t = jenkins::hash4(q.seed, q.x, label, q.r, q.item);
-    let part = t as u64 * weight as u64;
-    part < (left as u64) << 32
-}
-
-// The word, or the bound that it passes.
-fn between(word: u32, lo: u32, hi: u32) -> u32
-    requires { lo ≤ hi }
-    ensures { result ≡ max lo (min word hi) }
-{
-    if word < lo {
-        return lo;
-    }
-    if hi < word {
-        return hi;
-    }
-    word
+    let part = u64::from(t) * u64::from(weight);
+    part < u64::from(left) << 32
 }
 
 // What the children before place i weigh together, between lo and hi.
@@ -55,7 +39,7 @@ fn before(sums: &[u32], i: usize, lo: u32, hi: u32) -> u32
     ensures { result ≡ before sums.now i lo hi }
 {
     if i < sums.len() {
-        between(sums[i - 1], lo, hi)
+        sums[i - 1].clamp(lo, hi)
     } else {
         hi
     }
@@ -88,11 +72,7 @@ fn top(n: usize) -> u32
     requires { n ≤ 64 }
     ensures { result ≡ 2 ^ height_of n }
 {
-    let mut label: usize = 1;
-    while label < n {
-        label = 2 * label;
-    }
-    label as u32
+    n.next_power_of_two() as u32
 }
 
 // The leaf to which the walk comes from the root.
@@ -110,25 +90,20 @@ fn leaf(q: Asked, sums: &[u32], total: u32) -> usize
     };
     while 0 < side {
         n = turn(q, sums, side, n);
-        side = side / 2;
+        side /= 2;
     }
     (n.label / 2) as usize
 }
 
 // The draw among children, by their item numbers and the sums of their weights.
-pub fn draw(q: Asked, items: &[u32], sums: &[u32]) -> Drawn
+pub fn draw(q: Asked, items: &[u32], sums: &[u32]) -> Option<u32>
     requires { (length items.now ≤ 64) × (length sums.now ≡ length items.now) }
     ensures { result ≡ tree_of q.seed q.x q.r q.item (weights_from sums.now (length items.now)) items.now }
 {
-    let n = sums.len();
-    if n == 0 {
-        return Drawn::Nothing;
-    }
-    let total = sums[n - 1];
+    let total = sums.last().copied().unwrap_or(0);
     if total == 0 {
-        return Drawn::Nothing;
+        return None;
     }
     let k = leaf(q, sums, total);
-    let i = items[k];
-    Drawn::Winner(i)
+    Some(items[k])
 }

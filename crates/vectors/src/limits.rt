@@ -1,17 +1,14 @@
 // Document 02, change 7, of the edits in the cases: the moves of each edit of an acceptance beside its ceiling.
-ghost use Rattle.std.specs.Prelude.{◌≡◌, ◌*◌, ◌≤◌};
-
 use definitions::Change;
 use engine::limit;
 use engine::limit::Limit;
 use frames::digits;
-use report::edits::Line;
+use report::edits::Said;
 
-// A line before its edit is made: whether it is one of an acceptance, its device, whether the value rises, and the ceiling that is told with the
-// map and the table as they are.
+// An edit of an acceptance before it is made: its device, whether the value rises, and the ceiling that is told with the map and the table as they
+// are.
 #[derive(Clone, Copy)]
 pub struct Before {
-    pub known: bool,
     pub device: u32,
     pub rises: bool,
     pub ceiling: Limit,
@@ -52,69 +49,40 @@ pub fn none() -> Limits {
     }
 }
 
-// A line that is none.
-fn no_edit() -> Before {
-    Before {
-        known: false,
-        device: 0,
-        rises: false,
-        ceiling: Limit {
-            number: 0,
-            groups: 0,
-            moves: 0,
-        },
-    }
-}
-
 // The acceptance of a device in a map that was loaded: the devices' frames are the 23 bytes each behind the first 11.
 fn acceptance_of(map: &[u8], device: u32) -> u32 {
-    let n = map.len();
-    let mut at: usize = 11;
-    while at < n {
-        if n - at < 23 {
+    let mut rest = map.get(11..).unwrap_or(&[]);
+    while rest.len() >= 23 {
+        if digits::field(rest, 0, 2) != 1 {
             return 0;
         }
-        if digits::field(map, at, 2) != 1 {
-            return 0;
+        if digits::field(rest, 2, 4) == device {
+            return digits::field(rest, 14, 8);
         }
-        if digits::field(map, at + 2, 4) == device {
-            return digits::field(map, at + 14, 8);
-        }
-        at += 23;
+        rest = &rest[23..];
     }
     0
 }
 
-fn before_frame(map: &[u8], table: &[u16], frame: &[u8]) -> Before {
-    match edit_frame::change_of(frame) {
-        Change::Acceptance(d, v) => Before {
-            known: true,
-            device: d,
-            rises: acceptance_of(map, d) < v,
-            ceiling: limit::ceiling(map, table, d),
-        },
-        Change::Weight(d, v) => no_edit(),
-        Change::Malformed => no_edit(),
+// What is known before a line's edit: something of an edit of an acceptance, and nothing of another line.
+pub fn before_line(map: &[u8], table: &[u16], line: &[u8]) -> Option<Before> {
+    match edit_frame::change_of(line) {
+        Some(Change::Acceptance(device, value)) => Some(Before {
+            device,
+            rises: acceptance_of(map, device) < value,
+            ceiling: limit::ceiling(map, table, device),
+        }),
+        _ => None,
     }
-}
-
-// What is known before a line's edit.
-pub fn before_line(map: &[u8], table: &[u16], l: Line) -> Before
-    requires { l.count ≤ 15 }
-{
-    let bytes = l.bytes;
-    let n = l.count;
-    before_frame(map, table, &bytes[..n])
 }
 
 // What is known before a byte: an edit is made at the end of its line.
-pub fn before_byte(map: &[u8], table: &[u16], l: Line, b: u8) -> Before
-    requires { l.count ≤ 15 }
-{
-    if b != 10 {
-        return no_edit();
+pub fn before_byte(map: &[u8], table: &[u16], line: &[u8], b: u8) -> Option<Before> {
+    if b == b'\n' {
+        before_line(map, table, line)
+    } else {
+        None
     }
-    before_line(map, table, l)
 }
 
 // The ceiling of an edit that was made: for a rise that of the map and the table as it left them.
@@ -125,35 +93,25 @@ fn ceiling_of(map: &[u8], table: &[u16], a: Before) -> Limit {
     a.ceiling
 }
 
-fn product(a: u32, b: u32) -> u64
-    ensures { result ≡ a * b }
-{
-    a as u64 * b as u64
-}
-
 // Whether a came nearer to its ceiling than b; as near with wider lists, or with more moves, counts as nearer.
 fn tighter(a: Bound, b: Bound) -> bool {
-    let x = product(a.moves, b.ceiling);
-    let y = product(b.moves, a.ceiling);
-    if x != y {
-        return y < x;
-    }
-    if a.width != b.width {
-        return b.width < a.width;
-    }
-    b.moves < a.moves
+    let x = u64::from(a.moves) * u64::from(b.ceiling);
+    let y = u64::from(b.moves) * u64::from(a.ceiling);
+    (y, b.width, b.moves) < (x, a.width, a.moves)
 }
 
 // The sums with one edit more.
 fn counted(t: Limits, b: Bound) -> Limits {
-    let above = if b.ceiling < b.moves { 1 } else { 0 };
-    let last = t.tightest;
     Limits {
         edits: t.edits.wrapping_add(1),
-        above: t.above.wrapping_add(above),
-        moves: t.moves.wrapping_add(b.moves as u64),
-        most: t.most.wrapping_add(b.ceiling as u64),
-        tightest: if tighter(b, last) { b } else { last },
+        above: t.above.wrapping_add(u64::from(b.ceiling < b.moves)),
+        moves: t.moves.wrapping_add(u64::from(b.moves)),
+        most: t.most.wrapping_add(u64::from(b.ceiling)),
+        tightest: if tighter(b, t.tightest) {
+            b
+        } else {
+            t.tightest
+        },
     }
 }
 
@@ -164,21 +122,27 @@ fn width_of(l: Limit) -> u32 {
     l.moves / l.groups
 }
 
-// The edit of a line is made: `printed` is how many bytes it answered, 23 for each move, or the 5 of a refusal.
-pub fn after(map: &[u8], table: &[u16], a: Before, printed: usize, case: u64, t: Limits) -> Limits {
-    if !a.known {
+// The edit of a line is made, and `said` is what it answered: 23 bytes for each move, or a refusal.
+pub fn after(
+    map: &[u8],
+    table: &[u16],
+    before: Option<Before>,
+    said: Said,
+    case: u64,
+    t: Limits,
+) -> Limits {
+    let Some(a) = before else {
         return t;
-    }
-    if printed % 23 != 0 {
+    };
+    let Said::Front(bytes) = said else {
         return t;
-    }
-    // no answer is longer than its space
-    if printed > 65536 {
+    };
+    let Ok(moves) = u32::try_from(bytes / 23) else {
         return t;
-    }
+    };
     let c = ceiling_of(map, table, a);
     let bound = Bound {
-        moves: (printed / 23) as u32,
+        moves,
         ceiling: c.moves,
         width: width_of(c),
         case,

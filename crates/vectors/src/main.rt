@@ -9,475 +9,301 @@ mod loads;
 ghost use Rattle.std.specs.Prelude.{◌≡◌, ◌+◌, ◌*◌, ◌≤◌, length, IfOk};
 
 use frames::digits;
-use limits::Limits;
-use loads::Load;
+use limits::{Before, Limits};
 use protocol::asked::Program;
 use report::edits;
-use report::edits::Line;
+use report::edits::Said;
+use report::line::Line;
 use std::fs::File;
 use std::io::Read;
 use std::{fs, io};
 
-// Where a comparison stands that met a difference: behind every byte wanted.
-const LOST: usize = usize::MAX;
+// More than load takes, so that a case can be too long.
+const MAP: usize = 65600;
+
+// What `fill` lends to the table, in places of 16 bits.
+const TABLE: usize = 32768;
 
 // Tries are compared for the groups below this.
 const TRIED: u32 = 64;
 
-// The calls of a case: the line under way, how many of the bytes wanted were met, and the ceilings.
+// What came of a case so far: what is left of the bytes wanted, or nothing where they were not met, and the ceilings.
 #[derive(Clone, Copy)]
-struct Step {
-    line: Line,
-    at: usize,
+struct Met<'a> {
+    left: Option<&'a [u8]>,
     limits: Limits,
 }
 
-// What came of a case: how many of the bytes wanted were met, and the ceilings.
-#[derive(Clone, Copy)]
-struct Met {
-    at: usize,
-    limits: Limits,
-}
-
-// Whether a case is right, and the ceilings.
-#[derive(Clone, Copy)]
-struct Judged {
-    right: bool,
-    limits: Limits,
-}
-
-// How many cases were read, how many of them were wrong, the number of the first of these, or 0, whether the file has ended, and the ceilings.
+// How many cases were read, how many of them were wrong, the number of the first of these, and the ceilings.
 #[derive(Clone, Copy)]
 struct Tally {
     cases: u64,
     wrong: u64,
-    first: u64,
-    ended: bool,
+    first: Option<u64>,
     limits: Limits,
 }
 
-fn wide(x: u32) -> usize
-    ensures { result ≡ x }
-{
-    x as usize
-}
+// The functions below whose names end in agree or agrees answer the bytes wanted that are left behind their own piece, or nothing where those wanted
+// do not begin with it.
 
-// More than load takes, so that a case can be too long.
-fn map_space() -> [u8; 65600]
-    ensures { 65600 ≡ length result }
-{
-    [0; 65600]
-}
-
-// The calls of a case.
-fn given_space() -> [u8; 65536]
-    ensures { 65536 ≡ length result }
-{
-    [0; 65536]
-}
-
-// The longest answer: 16,384 rows of two places.
-fn want_space() -> [u8; 393216]
-    ensures { 393216 ≡ length result }
-{
-    [0; 393216]
-}
-
-// What `fill` lends to the moves.
-fn moves_space() -> [u8; 65536]
-    ensures { 65536 ≡ length result }
-{
-    [0; 65536]
-}
-
-// What `fill` lends to the table, in places of 16 bits.
-fn table_space() -> [u16; 32768]
-    ensures { 32768 ≡ length result }
-{
-    [0; 32768]
-}
-
-// Words that are no states before a map is loaded.
-fn state_space() -> [u32; 24586]
-    ensures { 24586 ≡ length result }
-{
-    [7; 24586]
-}
-
-fn row_space() -> [u16; 32]
-    ensures { 32 ≡ length result }
-{
-    [0; 32]
-}
-
-// A row's line: 11 bytes, and 4 for each of at most 32 places.
-fn line_space() -> [u8; 139]
-    ensures { 139 ≡ length result }
-{
-    [0; 139]
-}
-
-// Where the bytes wanted go on behind a piece that they have from at on; LOST if they do not have it there. So answer the functions below
-// whose names end in agree or agrees, each for its own piece.
-fn agree(want: &[u8], at: usize, piece: &[u8]) -> usize {
-    let mut a = at;
-    let mut i: usize = 0;
-    while i < piece.len() {
-        if a >= want.len() {
-            return LOST;
-        }
-        if want[a] != piece[i] {
-            return LOST;
-        }
-        a += 1;
-        i += 1;
-    }
-    a
-}
-
-// The first n bytes of a space.
-fn front_agrees(space: &[u8], n: usize, want: &[u8], at: usize) -> usize
-    requires { n ≤ length space.now }
-{
-    agree(want, at, &space[..n])
-}
-
-fn refusal_agrees(number: u32, want: &[u8], at: usize) -> usize {
+fn refusal_agrees<'a>(number: u32, want: &'a [u8]) -> Option<&'a [u8]> {
     let mut line = [0u8; 5];
     protocol::printed::refusal_line(number, &mut line);
-    agree(want, at, &line)
+    want.strip_prefix(line.as_slice())
 }
 
 // What a call prints that prints its refusal only.
-fn number_agrees(number: u32, want: &[u8], at: usize) -> usize {
+fn number_agrees<'a>(number: u32, want: &'a [u8]) -> Option<&'a [u8]> {
     if number == 0 {
-        return at;
+        Some(want)
+    } else {
+        refusal_agrees(number, want)
     }
-    refusal_agrees(number, want, at)
+}
+
+// What is said of a line, of which the rows of the table are not compared. What is said at the front of the space is within it, so `get` finds it.
+fn said_agrees<'a>(said: Said, space: &[u8], want: &'a [u8]) -> Option<&'a [u8]> {
+    match said {
+        Said::Refused(number) => refusal_agrees(number, want),
+        Said::Front(n) => want.strip_prefix(space.get(..n)?),
+        Said::Rows(_, _) => Some(want),
+    }
 }
 
 // A frame of tries.
-fn tries_agree(tries: u32, want: &[u8], at: usize) -> usize {
+fn tries_agree<'a>(tries: u32, want: &'a [u8]) -> Option<&'a [u8]> {
     let mut field = [0u8; 8];
     digits::put_field(&mut field, tries);
-    let kind = agree(want, at, b"12");
-    let value = agree(want, kind, &field);
-    agree(want, value, b"\n")
+    let kind = want.strip_prefix(b"12".as_slice())?;
+    let value = kind.strip_prefix(field.as_slice())?;
+    value.strip_prefix(b"\n".as_slice())
 }
 
 // A row, by way of line, which has the row line's length.
-fn row_agrees(group: u32, row: &[u16], line: &mut [u8], want: &[u8], at: usize) -> usize
+fn row_agrees<'a>(group: u32, row: &[u16], line: &mut [u8], want: &'a [u8]) -> Option<&'a [u8]>
     requires { (length line.old ≡ 11 + 4 * length row.now) × (length row.now ≤ 32) }
 {
     protocol::printed::row_line(group, row, line);
-    agree(want, at, line)
+    want.strip_prefix(&*line)
 }
 
 // A group's row and tries by placing it alone, by way of row.
-fn placed_agrees(
+fn placed_agrees<'a>(
     map: &[u8],
     group: u32,
     row: &mut [u16],
     line: &mut [u8],
-    want: &[u8],
-    at: usize,
-) -> usize
+    want: &'a [u8],
+) -> Option<&'a [u8]>
     requires { (length line.old ≡ 11 + 4 * length row.old) × (length row.old ≤ 32) }
 {
     let placed = engine::place::place(map, group, row);
-    let tried = row_agrees(group, row, line, want, at);
-    tries_agree(placed.tries, want, tried)
+    let behind = row_agrees(group, row, line, want)?;
+    tries_agree(placed.tries, behind)
 }
 
 // A group: its row in the table, which is also what placing it alone gives.
-fn group_agrees(
+fn group_agrees<'a>(
     map: &[u8],
     group: u32,
     row: &[u16],
     space: &mut [u16],
     line: &mut [u8],
-    want: &[u8],
-    at: usize,
-) -> usize
+    want: &'a [u8],
+) -> Option<&'a [u8]>
     requires { (length line.old ≡ 11 + 4 * length row.now) × (length row.now ≤ 32) × (length space.old ≡ length row.now) }
 {
-    let next = row_agrees(group, row, line, want, at);
-    if next == LOST {
-        return LOST;
-    }
+    let behind = row_agrees(group, row, line, want)?;
     if group >= TRIED {
-        return next;
+        return Some(behind);
     }
-    placed_agrees(map, group, space, line, want, at)
+    placed_agrees(map, group, space, line, want)
 }
 
 // The groups below `groups`, each w places wide.
-fn rows_agree(
+fn rows_agree<'a>(
     map: &[u8],
     table: &[u16],
     groups: u32,
     w: usize,
     space: &mut [u16],
     line: &mut [u8],
-    want: &[u8],
-) -> usize
+    want: &'a [u8],
+) -> Option<&'a [u8]>
     requires { (w ≤ 32) × (groups * w ≤ length table.now) × (length line.old ≡ 11 + 4 * w) × (length space.old ≡ w) }
 {
-    let mut at: usize = 0;
-    let mut g: u32 = 0;
-    while g < groups {
-        let a = wide(g) * w;
-        let e = a + w;
-        at = group_agrees(map, g, &table[a..e], space, line, want, at);
-        g += 1;
+    let mut left = want;
+    for g in 0..groups {
+        let a = g as usize * w;
+        left = group_agrees(map, g, &table[a..a + w], space, line, left)?;
     }
-    at
+    Some(left)
 }
 
-// A filled table.
-fn table_agrees(map: &[u8], table: &[u16], groups: u32, w: usize, want: &[u8]) -> usize
+// A filled table. A row's line has 11 bytes, and 4 for each of at most 32 places.
+fn table_agrees<'a>(
+    map: &[u8],
+    table: &[u16],
+    groups: u32,
+    w: usize,
+    want: &'a [u8],
+) -> Option<&'a [u8]>
     requires { (w ≤ 32) × (groups * w ≤ length table.now) }
 {
-    let n = 11 + 4 * w;
-    let mut row = row_space();
-    let mut line = line_space();
-    rows_agree(map, table, groups, w, &mut row[..w], &mut line[..n], want)
+    let mut row = [0u16; 32];
+    let mut line = [0u8; 139];
+    rows_agree(
+        map,
+        table,
+        groups,
+        w,
+        &mut row[..w],
+        &mut line[..11 + 4 * w],
+        want,
+    )
 }
 
-// What a byte of the calls leads to that loads no map.
-fn take_other(
-    map: &mut [u8],
-    table: &mut [u16],
-    states: &mut [u32; 24586],
-    s: Step,
-    b: u8,
-    space: &mut [u8],
-    want: &[u8],
+// What a line led to beside what was wanted of it.
+fn met_behind<'a>(
+    map: &[u8],
+    table: &[u16],
+    before: Option<Before>,
+    said: Said,
+    space: &[u8],
+    met: Met<'a>,
     case: u64,
-) -> Step
-    requires { (5 ≤ length space.old) × (s.line.count ≤ 15) }
-    ensures { result.line.count ≤ 15 }
-{
-    let l = s.line;
-    let before = limits::before_byte(map, table, l, b);
-    let turn = edits::on_byte(Program::Operate, map, table, states, l, b, space);
-    let printed = turn.said.bytes;
-    let at = front_agrees(space, printed, want, s.at);
-    let line = turn.line;
-    let so_far = s.limits;
-    let limits = limits::after(map, table, before, printed, case, so_far);
-    Step { line, at, limits }
-}
-
-// The end of a line that loaded a map.
-fn after_load(s: Step, number: u32, want: &[u8]) -> Step
-    ensures { result.line.count ≤ 15 }
-{
-    let limits = s.limits;
-    Step {
-        line: edits::no_line(),
-        at: number_agrees(number, want, s.at),
-        limits,
+) -> Met<'a> {
+    let left = match met.left {
+        Some(want) => said_agrees(said, space, want),
+        None => None,
+    };
+    Met {
+        left,
+        limits: limits::after(map, table, before, said, case, met.limits),
     }
 }
 
 // What a byte of the calls leads to.
-fn take_byte(
+fn take_byte<'a>(
     map: &mut [u8],
     table: &mut [u16],
     states: &mut [u32; 24586],
-    s: Step,
+    line: &mut Line,
     b: u8,
     space: &mut [u8],
-    want: &[u8],
+    met: Met<'a>,
     case: u64,
-) -> Step
-    requires { (5 ≤ length space.old) × (s.line.count ≤ 15) }
-    ensures { result.line.count ≤ 15 }
-{
-    let l = s.line;
-    match loads::load_at(l, b) {
-        Load::Whole => after_load(s, loads::whole(map, states), want),
-        Load::Short => after_load(s, loads::short(map, states), want),
-        Load::Neither => take_other(map, table, states, s, b, space, want, case),
+) -> Met<'a> {
+    if let Some(l) = loads::load_at(line.bytes(), b) {
+        line.clear();
+        let number = loads::number_of(l, map, states);
+        let left = match met.left {
+            Some(want) => number_agrees(number, want),
+            None => None,
+        };
+        return Met {
+            left,
+            limits: met.limits,
+        };
     }
+    let before = limits::before_byte(map, table, line.bytes(), b);
+    let said = edits::on_byte(Program::Operate, map, table, states, line, b, space);
+    met_behind(map, table, before, said, space, met, case)
 }
 
-fn take_bytes(
-    map: &mut [u8],
-    table: &mut [u16],
-    states: &mut [u32; 24586],
-    first: Step,
-    given: &[u8],
-    space: &mut [u8],
-    want: &[u8],
-    case: u64,
-) -> Step
-    requires { (5 ≤ length space.old) × (first.line.count ≤ 15) }
-    ensures { result.line.count ≤ 15 }
-{
-    let mut s = first;
-    let mut i: usize = 0;
-    while i < given.len() {
-        s = take_byte(map, table, states, s, given[i], space, want, case);
-        i += 1;
-    }
-    s
-}
-
-// The end of the calls: a last line that is not ended is one too.
-fn end_agrees(
-    map: &mut [u8],
-    table: &mut [u16],
-    states: &mut [u32; 24586],
-    s: Step,
-    space: &mut [u8],
-    want: &[u8],
-    case: u64,
-) -> Met
-    requires { (5 ≤ length space.old) × (s.line.count ≤ 15) }
-{
-    let l = s.line;
-    let before = limits::before_line(map, table, l);
-    let said = edits::on_end(Program::Operate, map, table, states, l, space);
-    let printed = said.bytes;
-    let at = front_agrees(space, printed, want, s.at);
-    let so_far = s.limits;
-    let limits = limits::after(map, table, before, printed, case, so_far);
-    Met { at, limits }
-}
-
-// All calls.
-fn calls_agree(
+// All calls. The end of a last line that is not ended is one too.
+fn calls_agree<'a>(
     map: &mut [u8],
     table: &mut [u16],
     states: &mut [u32; 24586],
     given: &[u8],
-    want: &[u8],
-    first: Met,
+    first: Met<'a>,
     case: u64,
-) -> Met {
-    let mut space = moves_space();
-    let limits = first.limits;
-    let begun = Step {
-        line: edits::no_line(),
-        at: first.at,
-        limits,
-    };
-    let last = take_bytes(map, table, states, begun, given, &mut space, want, case);
-    end_agrees(map, table, states, last, &mut space, want, case)
+) -> Met<'a> {
+    // what `fill` lends to the moves
+    let mut space = [0u8; 65536];
+    let mut line = Line::new();
+    let mut met = first;
+    for b in given {
+        met = take_byte(map, table, states, &mut line, *b, &mut space, met, case);
+    }
+    let before = limits::before_line(map, table, line.bytes());
+    let said = edits::on_end(Program::Operate, map, table, states, &line, &mut space);
+    met_behind(map, table, before, said, &space, met, case)
 }
 
 // The map as it is written.
-fn written_agrees(map: &[u8], want: &[u8], at: usize) -> usize {
-    let mut space = map_space();
+fn written_agrees<'a>(map: &[u8], want: &'a [u8]) -> Option<&'a [u8]> {
+    let mut space = [0u8; MAP];
     let written = engine::write::write(map, &mut space);
-    let n = written.bytes;
-    if n > 65600 {
-        return LOST;
-    }
-    front_agrees(&space, n, want, at)
-}
-
-fn same_places(a: &[u16], b: &[u16]) -> bool {
-    if a.len() != b.len() {
-        return false;
-    }
-    let mut i: usize = 0;
-    while i < a.len() {
-        if a[i] != b[i] {
-            return false;
-        }
-        i += 1;
-    }
-    true
-}
-
-// A case that cannot be right.
-fn lost(t: Limits) -> Met {
-    Met {
-        at: LOST,
-        limits: t,
-    }
+    want.strip_prefix(space.get(..written.bytes)?)
 }
 
 // Is the table what filling gives?
 fn is_fresh(map: &[u8], table: &[u16]) -> bool {
-    let mut fresh = table_space();
+    let mut fresh = [0u16; TABLE];
     engine::fill::fill(map, &mut fresh);
-    same_places(&fresh, table)
-}
-
-fn size(groups: u32, w: usize) -> usize
-    requires { w ≤ 32 }
-    ensures { result ≡ groups * w }
-{
-    wide(groups) * w
+    fresh.as_slice() == table
 }
 
 // What is left of a case whose calls were met so far: the map loads, and the table is what filling it gives.
-fn left_agrees(map: &[u8], table: &[u16], want: &[u8], at: usize) -> usize {
-    let sizes = engine::load::sizes_of(map);
-    if sizes.number != 0 {
-        return LOST;
+fn left_agrees<'a>(map: &[u8], table: &[u16], want: &'a [u8]) -> Option<&'a [u8]> {
+    if engine::load::sizes_of(map).number != 0 || !is_fresh(map, table) {
+        return None;
     }
-    if !is_fresh(map, table) {
-        return LOST;
-    }
-    written_agrees(map, want, at)
+    written_agrees(map, want)
 }
 
 // All that the engine answers to a map and its calls; t are the ceilings so far.
-fn answers_agree(
+fn answers_agree<'a>(
     map: &mut [u8],
     given: &[u8],
     groups: u32,
     w: usize,
-    want: &[u8],
+    want: &'a [u8],
     case: u64,
     t: Limits,
-) -> Met {
-    let mut states = state_space();
+) -> Met<'a> {
+    // words that are no states before a map is loaded
+    let mut states = [7u32; 24586];
     let sizes = engine::load::load(map, &mut states);
     if sizes.number != 0 {
         return Met {
-            at: refusal_agrees(sizes.number, want, 0),
+            left: refusal_agrees(sizes.number, want),
             limits: t,
         };
     }
-    let mut table = table_space();
+    let mut table = [0u16; TABLE];
     let filled = engine::fill::fill(map, &mut table);
     if filled.number != 0 {
         return Met {
-            at: refusal_agrees(filled.number, want, 0),
+            left: refusal_agrees(filled.number, want),
             limits: t,
         };
     }
-    if sizes.groups != groups {
-        return lost(t);
-    }
-    if wide(sizes.places) != w {
-        return lost(t);
-    }
-    if w > 32 {
-        return lost(t);
-    }
-    let places = size(groups, w);
-    if places > 32768 {
-        return lost(t);
-    }
-    if filled.places != places {
-        return lost(t);
-    }
-    let rows = Met {
-        at: table_agrees(map, &table, groups, w, want),
+    let lost = Met {
+        left: None,
         limits: t,
     };
-    let last = calls_agree(map, &mut table, &mut states, given, want, rows, case);
-    let limits = last.limits;
+    if sizes.groups != groups || sizes.places as usize != w || w > 32 {
+        return lost;
+    }
+    let places = groups as usize * w;
+    if places > TABLE || filled.places != places {
+        return lost;
+    }
+    let rows = Met {
+        left: table_agrees(map, &table, groups, w, want),
+        limits: t,
+    };
+    let last = calls_agree(map, &mut table, &mut states, given, rows, case);
+    let left = match last.left {
+        Some(want) => left_agrees(map, &table, want),
+        None => None,
+    };
     Met {
-        at: left_agrees(map, &table, want, last.at),
-        limits,
+        left,
+        limits: last.limits,
     }
 }
 
@@ -485,6 +311,7 @@ fn answers_agree(
 fn read_full(file: &mut File, space: &mut [u8]) -> io::Result<usize>
     ensures { IfOk result (λ n. n ≤ length space.new) }
 {
+    // the place up to which bytes came, by as many as each read brings
     let mut at: usize = 0;
     while at < space.len() {
         let n = file.read(&mut space[at..])?;
@@ -507,130 +334,70 @@ fn read_front(file: &mut File, space: &mut [u8], n: usize) -> io::Result<bool>
 fn number(head: &[u8; 41], at: usize) -> usize
     requires { at ≤ 32 }
 {
-    wide(digits::field(head, at, 8))
+    digits::field(head, at, 8) as usize
 }
 
-// Reads the map, the calls and the answer of a case.
-fn read_all(
-    file: &mut File,
-    map: &mut [u8],
-    m: usize,
-    given: &mut [u8],
-    e: usize,
-    want: &mut [u8],
-    n: usize,
-) -> io::Result<bool>
-    requires { (m ≤ length map.old) × (e ≤ length given.old) × (n ≤ length want.old) }
-{
-    if !read_front(file, map, m)? {
-        return Ok(false);
-    }
-    if !read_front(file, given, e)? {
-        return Ok(false);
-    }
-    read_front(file, want, n)
-}
-
-// Whether a case that was read is right.
-fn judge_read(
-    map: &mut [u8],
-    given: &[u8],
-    groups: u32,
-    w: usize,
-    want: &[u8],
-    case: u64,
-    t: Limits,
-) -> Judged {
-    let met = answers_agree(map, given, groups, w, want, case, t);
-    let limits = met.limits;
-    Judged {
-        right: met.at == want.len(),
-        limits,
-    }
-}
-
-// A case that cannot be read.
-fn unread(t: Limits) -> Judged {
-    Judged {
-        right: false,
-        limits: t,
-    }
-}
-
-// Reads what follows a case's first line, and answers whether the case is right.
-fn judge(
+// Reads what follows a case's first line, and answers what came of the case; nothing is met of one that cannot be read.
+fn judge<'a>(
     file: &mut File,
     head: &[u8; 41],
     map: &mut [u8],
     given: &mut [u8],
-    want: &mut [u8],
+    want: &'a mut [u8],
     case: u64,
     t: Limits,
-) -> io::Result<Judged> {
+) -> io::Result<Met<'a>> {
     let m = number(head, 0);
     let e = number(head, 8);
     let n = number(head, 16);
     let groups = digits::field(head, 24, 8);
     let w = number(head, 32);
-    if m > map.len() {
-        return Ok(unread(t));
+    let unread = Met {
+        left: None,
+        limits: t,
+    };
+    if m > map.len() || e > given.len() || n > want.len() {
+        return Ok(unread);
     }
-    if e > given.len() {
-        return Ok(unread(t));
+    if !read_front(file, map, m)? || !read_front(file, given, e)? || !read_front(file, want, n)? {
+        return Ok(unread);
     }
-    if n > want.len() {
-        return Ok(unread(t));
-    }
-    if !read_all(file, map, m, given, e, want, n)? {
-        return Ok(unread(t));
-    }
-    Ok(judge_read(&mut map[..m], &given[..e], groups, w, &want[..n], case, t))
+    Ok(answers_agree(&mut map[..m], &given[..e], groups, w, &want[..n], case, t))
 }
 
-// A tally with one case more.
-fn counted(t: Tally, case: u64, j: Judged) -> Tally {
-    let limits = j.limits;
-    if j.right {
+// A tally with one case more, of which all of the bytes wanted are to be met.
+fn counted(t: Tally, case: u64, met: Met<'_>) -> Tally {
+    if let Some([]) = met.left {
         return Tally {
             cases: case,
             wrong: t.wrong,
             first: t.first,
-            ended: false,
-            limits,
+            limits: met.limits,
         };
     }
     Tally {
         cases: case,
         wrong: t.wrong.wrapping_add(1),
-        first: if t.wrong == 0 { case } else { t.first },
-        ended: false,
-        limits,
+        first: t.first.or(Some(case)),
+        limits: met.limits,
     }
 }
 
-// Reads the next case and counts it.
+// Reads the next case and counts it; there is none at the file's end.
 fn count_case(
     file: &mut File,
     t: Tally,
     map: &mut [u8],
     given: &mut [u8],
     want: &mut [u8],
-) -> io::Result<Tally> {
+) -> io::Result<Option<Tally>> {
     let mut head = [0u8; 41];
-    let n = read_full(file, &mut head)?;
-    let limits = t.limits;
-    if n == 0 {
-        return Ok(Tally {
-            cases: t.cases,
-            wrong: t.wrong,
-            first: t.first,
-            ended: true,
-            limits,
-        });
+    if read_full(file, &mut head)? == 0 {
+        return Ok(None);
     }
     let case = t.cases.wrapping_add(1);
-    let judged = judge(file, &head, map, given, want, case, limits)?;
-    Ok(counted(t, case, judged))
+    let met = judge(file, &head, map, given, want, case, t.limits)?;
+    Ok(Some(counted(t, case, met)))
 }
 
 // Reads on to the file's end. A proved loop has to end, and nothing says that the file does: the cases are counted up to a number that no file
@@ -644,14 +411,13 @@ fn count_cases(
     let mut t = Tally {
         cases: 0,
         wrong: 0,
-        first: 0,
-        ended: false,
+        first: None,
         limits: limits::none(),
     };
     for _ in 0..u64::MAX {
-        t = count_case(file, t, map, given, want)?;
-        if t.ended {
-            break;
+        match count_case(file, t, map, given, want)? {
+            Some(next) => t = next,
+            None => break,
         }
     }
     Ok(t)
@@ -670,8 +436,8 @@ fn print_limits(rt: &impl Print, t: Limits) -> io::Result<()> {
 
 fn print(rt: &impl Print, t: Tally) -> io::Result<()> {
     print!(rt; "{} cases, {} wrong", t.cases, t.wrong)?;
-    if t.wrong != 0 {
-        print!(rt; ", first the one of number {}", t.first)?;
+    if let Some(first) = t.first {
+        print!(rt; ", first the one of number {first}")?;
     }
     println!(rt)?;
     print_limits(rt, t.limits)
@@ -679,9 +445,11 @@ fn print(rt: &impl Print, t: Tally) -> io::Result<()> {
 
 fn main(rt: HostRuntime) -> io::Result<()> {
     let mut cases = fs::open(&rt, "cases")?;
-    let mut map = map_space();
-    let mut given = given_space();
-    let mut want = want_space();
+    let mut map = [0u8; MAP];
+    // the calls of a case
+    let mut given = [0u8; 65536];
+    // the longest answer: 16,384 rows of two places
+    let mut want = [0u8; 393216];
     print(
         &rt,
         count_cases(&mut cases, &mut map, &mut given, &mut want)?,

@@ -19,6 +19,7 @@ use Rattle.walk.specs.declared.Search.{Search}
 use Rattle.walk.specs.Searches.{Inward, SearchBounds, try_at, test_at, turn_at}
 
 -- the counts of a rank that is not at its end: f_r below 50, f at most 1,000 more, and at most 50 tries within each test so far
+-- A clause, since `State` is the definitions' own type, which holds any counts.
 abbrev pub Going : State → Type 0
 Going s = (s.fr < 50) × (s.f ≤ 1000 + s.fr) × (s.inner ≤ 50 * s.fr)
 

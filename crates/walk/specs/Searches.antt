@@ -20,6 +20,7 @@ inward Independent = 0
 inward Through = 1
 
 -- a search within the map; a select has r at most 16, and up to 1,000, the r of an inner walk, no r' wraps
+-- A clause, and no part of the type: `inner` makes a search of any r, as its contract has it.
 abbrev pub SearchBounds : Search → Type 0
 SearchBounds k =
     (k.start < 256) × (k.wanted.n ≤ 16) × (k.r ≤ 1000) × (k.wanted.mode ≡ Through → k.r ≤ 16) × Inward k.wanted.mode k.wanted.t

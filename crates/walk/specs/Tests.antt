@@ -1,6 +1,6 @@
 -- What the test of a search comes to, by its mode, and what a pass puts out. Assumes nothing.
 use Rattle.std.specs.Prelude.{◌≡◌, refl, true, false, List, ◌⊎◌, ℕ, ◌<◌, ◌≤◌, eqb}
-use Rattle.std.proofs.Common.{sym, subst, inl, arith, eqb-true}
+use Rattle.std.proofs.Common.{sym, subst, inl, inr, arith, eqb-true}
 use Rattle.definitions.specs.declared.Mode.TheVariants.{FirstN, Independent, Through}
 use Rattle.definitions.specs.declared.Ranked.{Ranked}
 use Rattle.definitions.specs.declared.Tried.{Tried}
@@ -22,13 +22,10 @@ module _ (plan values : List ℕ) (x : ℕ) (k : Search) (held : List ℕ) (q i 
   abbrev Told : Type 0
   Told = (w ≡ (test_at v x k held q i).tried) × TriedBounds plan (reached_by k) w
 
-  pub told-first : k.wanted.mode ≡ FirstN → Typed plan k.wanted.t i → w ≡ (plain i (verdict_of v x held i)).tried → Told
+  pub told-plain : (k.wanted.mode ≡ FirstN) ⊎ (k.wanted.mode ≡ Independent) → Typed plan k.wanted.t i → w ≡ (plain i (verdict_of v x held i)).tried → Told
   unfolding test_of plain_test reaches
-  told-first e h p = rw (e, p) (refl, plain-bounds plan k.wanted.t i (verdict_of v x held i) h)
-
-  pub told-independent : k.wanted.mode ≡ Independent → Typed plan k.wanted.t i → w ≡ (plain i (verdict_of v x held i)).tried → Told
-  unfolding test_of plain_test reaches
-  told-independent e h p = rw (e, p) (refl, plain-bounds plan k.wanted.t i (verdict_of v x held i) h)
+  told-plain (inl e) h p = rw (e, p) (refl, plain-bounds plan k.wanted.t i (verdict_of v x held i) h)
+  told-plain (inr e) h p = rw (e, p) (refl, plain-bounds plan k.wanted.t i (verdict_of v x held i) h)
 
   module _ (e : k.wanted.mode ≡ Through) where
     pub told-held : has i held ≡ true → w ≡ (plain i Held).tried → Told

@@ -7,11 +7,11 @@ ghost use Rattle.definitions.specs.Lists.{has};
 ghost use Rattle.definitions.specs.Hash.{hash2};
 ghost use Rattle.definitions.specs.Map.{bucket_number};
 ghost use Rattle.definitions.specs.Walk.{accepts, accepted, verdict_of, plain, tries_in, found, failed_to, retry_at, on_tried, rank_end};
-ghost use Rattle.hierarchy.specs.Arrays.{view_in, live_in, given_up, ItemRange, Sound, Flagged};
+ghost use Rattle.hierarchy.specs.Arrays.{view_in, live_in, given_up, ItemRange, Flagged};
 ghost use Rattle.walk.specs.Searches.{SearchBounds, inner_search, reached_by, try_at, test_at, turn_at, rank_at};
 ghost use Rattle.walk.specs.Bounds.{Going, Testable, TriedBounds, TurnBounds, RankBounds};
 
-use definitions::{Drawn, Mode, Ranked, State, Tried, Turn, Verdict};
+use definitions::{Mode, Ranked, State, Tried, Turn, Verdict};
 use hierarchy::{Plan, Values};
 use item::Item;
 
@@ -48,12 +48,12 @@ fn decide(seed: u32, x: u32, d: u32, a: u32) -> bool
     jenkins::hash2(seed, x, d) % 65536 < a
 }
 
-// Does item i pass acceptance? A bucket always does.
-pub fn accepts<'a>(plan: &'a Plan, values: &'a Values, x: u32, i: u32) -> bool
+// Does item i pass acceptance? A bucket always does. Here and in `verdict` the words of a plan serve, which need not be sound.
+pub fn accepts<'a>(plan: &'a [u32; hierarchy::SEED + 1], values: &'a Values, x: u32, i: u32) -> bool
     requires { ItemRange i }
     ensures { result ≡ accepted (view_in plan.now values.now) x i }
 {
-    let item = Item::numbered(i);
+    let item = Item::from(i);
     if item.is_bucket() {
         return true;
     }
@@ -64,19 +64,12 @@ pub fn accepts<'a>(plan: &'a Plan, values: &'a Values, x: u32, i: u32) -> bool
 pub fn holds(held: &[u32], i: u32) -> bool
     ensures { result ≡ has i held.now }
 {
-    let mut j: usize = 0;
-    while j < held.len() {
-        if held[j] == i {
-            return true;
-        }
-        j += 1;
-    }
-    false
+    held.contains(&i)
 }
 
 // The end of the test of item i.
 pub fn verdict<'a, 'b>(
-    plan: &'a Plan,
+    plan: &'a [u32; hierarchy::SEED + 1],
     values: &'a Values,
     x: u32,
     held: &'b [u32],
@@ -95,7 +88,7 @@ pub fn verdict<'a, 'b>(
     }
 }
 
-// The test of an item that is itself the entry.
+// The test of an item that is itself the entry, under the name that the definitions give it.
 pub fn plain(i: u32, w: Verdict) -> Tried
     ensures { result ≡ (plain i w).tried }
 {
@@ -110,7 +103,7 @@ fn plain_test<'a, 'b>(plan: &'a Plan, values: &'a Values, x: u32, held: &'b [u32
     requires { ItemRange i }
     ensures { result ≡ (plain i (verdict_of (view_in plan.now values.now) x held.now i)).tried }
 {
-    let w = verdict(plan, values, x, held, i);
+    let w = verdict(&plan.words, values, x, held, i);
     plain(i, w)
 }
 
@@ -131,12 +124,12 @@ pub fn found(k: Ranked) -> Tried
     ensures { result ≡ found k }
 {
     let tries = tries_in(k);
-    let mut verdict = Verdict::Passed;
-    if k.entry == HOLE {
-        verdict = Verdict::Rejected;
-    }
     Tried {
-        verdict: verdict,
+        verdict: if k.entry == HOLE {
+            Verdict::Rejected
+        } else {
+            Verdict::Passed
+        },
         entry: k.entry,
         inner: tries,
     }
@@ -147,7 +140,7 @@ pub fn is_dead(values: &Values, i: u32) -> bool
     requires { ItemRange i × (65536 ≤ i) }
     ensures { result ≡ eqb (live_in values.now (bucket_number i)) 0 }
 {
-    let bucket = Item::numbered(i);
+    let bucket = Item::from(i);
     let b = bucket.bucket_number() as usize;
     values[hierarchy::LIVE + b] == 0
 }
@@ -168,16 +161,16 @@ pub fn inner(n: u32, q: u32, i: u32) -> Search
     requires { 65536 ≤ i }
     ensures { result ≡ inner_search n q i }
 {
-    let bucket = Item::numbered(i);
+    let bucket = Item::from(i);
     let start = bucket.bucket_number();
     let wanted = Wanted {
         mode: Mode::Independent,
-        n: n,
+        n,
         t: 0,
     };
     Search {
-        wanted: wanted,
-        start: start,
+        wanted,
+        start,
         r: q,
     }
 }
@@ -187,12 +180,9 @@ pub fn try_number(search: Search, s: State) -> u32
     requires { SearchBounds search × Going s }
     ensures { result ≡ try_at search s }
 {
-    let wanted = search.wanted;
-    let mode = wanted.mode;
-    match mode {
+    match search.wanted.mode {
         Mode::FirstN => search.r + s.f,
-        Mode::Independent => search.r + s.fr * wanted.n,
-        Mode::Through => search.r + s.fr * wanted.n,
+        Mode::Independent | Mode::Through => search.r + s.fr * search.wanted.n,
     }
 }
 
@@ -224,8 +214,7 @@ pub fn on_tried(start: u32, s: State, b: u32, i: u32, w: Tried) -> Turn
     requires { Going s × (w.inner ≤ 50) }
     ensures { result ≡ on_tried start s b i w }
 {
-    let verdict = w.verdict;
-    match verdict {
+    match w.verdict {
         Verdict::Held => Turn::Fail(failed_to(retry_at(start, b, s), w.inner, s)),
         Verdict::Rejected => Turn::Fail(failed_to(start, w.inner, s)),
         Verdict::Passed => Turn::Fill(i, w.entry, w.inner),
@@ -244,16 +233,13 @@ fn test<'a, 'b>(
     q: u32,
     i: u32,
 ) -> Tried
-    requires sound { Sound plan.now × Flagged plan.now values.now }
+    requires flagged { Flagged plan.now values.now }
     requires testable { Testable plan.now search q i }
     ensures value { result ≡ (test_at (view_in plan.now values.now) x search held.now q i).tried }
     ensures bounds { TriedBounds plan.now (reached_by search) result }
 {
-    let wanted = search.wanted;
-    let mode = wanted.mode;
-    match mode {
-        Mode::FirstN => plain_test(plan, values, x, held, i),
-        Mode::Independent => plain_test(plan, values, x, held, i),
+    match search.wanted.mode {
+        Mode::FirstN | Mode::Independent => plain_test(plan, values, x, held, i),
         Mode::Through => {
             if holds(held, i) {
                 return plain(i, Verdict::Held);
@@ -261,7 +247,7 @@ fn test<'a, 'b>(
             if is_dead(values, i) {
                 return given_up();
             }
-            let beneath = inner(wanted.n, q, i);
+            let beneath = inner(search.wanted.n, q, i);
             let k = rank(plan, values, x, beneath, held, 0);
             found(k)
         }
@@ -278,7 +264,7 @@ fn turn<'a, 'b>(
     held: &'b [u32],
     s: State,
 ) -> Turn
-    requires sound { Sound plan.now × Flagged plan.now values.now }
+    requires flagged { Flagged plan.now values.now }
     requires search_bounds { SearchBounds search × (s.at < 256) × Going s }
     ensures value { result ≡ (turn_at (view_in plan.now values.now) x search held.now s).turn }
     ensures bounds { TurnBounds plan.now (reached_by search) result }
@@ -288,10 +274,10 @@ fn turn<'a, 'b>(
     let q = try_number(search, s);
     let l = descent::descend(plan, values, x, t, q, s.at);
     let drawn = l.drawn;
-    let Drawn::Winner(i) = drawn else {
+    let Some(i) = drawn else {
         return Turn::Fail(failed_to(start, 0, s));
     };
-    if descent::type_of(plan, i) != t {
+    if descent::type_of(&plan.words, i) != t {
         return Turn::Fail(failed_to(start, 0, s));
     }
     let w = test(plan, values, x, search, held, q, i);
@@ -322,7 +308,7 @@ pub fn rank<'a, 'b>(
     held: &'b [u32],
     f0: u32,
 ) -> Ranked
-    requires sound { Sound plan.now × Flagged plan.now values.now }
+    requires flagged { Flagged plan.now values.now }
     requires search_bounds { SearchBounds search × (f0 ≤ 1000) }
     ensures value { result ≡ (rank_at (view_in plan.now values.now) x search held.now f0).ranked }
     ensures bounds { RankBounds plan.now (reached_by search) f0 result }
@@ -334,14 +320,9 @@ pub fn rank<'a, 'b>(
         inner: 0,
     };
     while s.fr < 50 {
-        let k = turn(plan, values, x, search, held, s);
-        match k {
-            Turn::Fill(i, e, j) => {
-                return rank_end(i, e, j, s);
-            }
-            Turn::Fail(next) => {
-                s = next;
-            }
+        match turn(plan, values, x, search, held, s) {
+            Turn::Fill(i, e, j) => return rank_end(i, e, j, s),
+            Turn::Fail(next) => s = next,
         }
     }
     rank_end(HOLE, HOLE, 0, s)

@@ -1,1 +1,2 @@
+pub mod Buckets
 pub mod Weights

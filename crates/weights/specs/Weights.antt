@@ -1,5 +1,6 @@
 -- The weights of the buckets, type by type: a bucket's children have smaller types, so theirs are known. Assumes nothing.
-use Rattle.std.specs.Prelude.{◌≡◌, refl, Bool, true, false, cond, ℕ, zero, suc, max, ◌+◌, ◌-◌, ◌<◌, ◌≤◌, ◌^◌, ltb, eqb, length, get_or, take, drop, set, replicate}
+use Rattle.std.specs.Prelude.{◌≡◌, refl, Bool, true, false, cond, ℕ, zero, suc, max, ◌+◌, ◌-◌, ◌<◌, ◌≤◌, ◌^◌, ltb, eqb, length, get_or, take, drop, set, replicate, Option, None, Some, MatchOption}
+use Rattle.std.specs.Option.{unwrap_or}
 use Rattle.std.proofs.Common.{sym, ◌∙◌, inl, inr, arith, lit<, length-take, length-set, drop_of_length-le, drop-cons, get_or-take, get_or-drop, ext_get_or}
 use Rattle.std.proofs.Math.Path.{ap}
 use mathlib.Core.List.{List, [], ◌∷◌, map}
@@ -119,22 +120,25 @@ filled-all f xs ts i e n h =
     ext_get_or 0 ts (map f xs) (sym n ∙ sym (length-map xs f))
     (λ j l. e j (omega arith) ∙ sym (get_d-mapped f xs j 0 0 (omega arith)))
 
--- a loop that takes the greatest: one more, and the end
-module _ (xs : List ℕ) (i n t : ℕ) (e : max n (greatest (drop i xs)) ≡ t) where
-  pub greatest-next : (m : ℕ) → i < length xs → m ≡ max n (get_or xs i 0) → max m (greatest (drop (i + 1) xs)) ≡ t
-  unfolding greatest
-  greatest-next m h q = rw (add-one i) (omega (arith, e, ap greatest (drop-cons xs i 0 h)))
-
-  pub greatest-end : length xs ≤ i → n ≡ t
-  unfolding greatest
-  greatest-end h = omega (arith, e, ap greatest (drop_of_length-le xs {i = i} h))
-
 -- each is at most the greatest
 pub at_most : (xs : List ℕ) (i : ℕ) → get_or xs i 0 ≤ greatest xs
 unfolding greatest
 at_most [] i = omega arith
 at_most (x ∷ xs) zero = omega arith
 at_most (x ∷ xs) (suc i) = omega (arith, at_most xs i)
+
+-- and the greatest at most what each is
+least : (xs : List ℕ) (m : ℕ) → ((k : ℕ) → k < length xs → get_or xs k 0 ≤ m) → greatest xs ≤ m
+unfolding greatest
+least [] m h = omega arith
+least (x ∷ xs) m h = let here : x ≤ m = h 0 (omega arith) in omega (arith, here, least xs m (λ k l. h (suc k) (omega arith)))
+
+-- an entry that no other exceeds, or 0 where there is none
+pub greatest-is : (xs : List ℕ) (o : Option ℕ)
+    → MatchOption o (length xs ≡ 0) (λ m. ((k : ℕ) × (k < length xs) × (get_or xs k 0 ≡ m)) × ((k : ℕ) → k < length xs → get_or xs k 0 ≤ m))
+    → unwrap_or o 0 ≡ greatest xs
+greatest-is xs None e = let l = least xs 0 (λ k l. absurd (omega (arith, e, l))) in omega (arith, l)
+greatest-is xs (Some m) (k, h) = omega (arith, k.2, at_most xs k.0, least xs m h)
 
 -- a round: one bucket more, of the type or not
 module _ (a : Arrays) (types : List ℕ) (ty b : ℕ) (loads₀ loads : List ℕ) (e : loads ≡ round_to a types ty loads₀ b) where

@@ -5,6 +5,7 @@ ghost use Rattle.std.specs.Prelude.{◌≡◌, map, ℕ, ◌+◌, ◌<◌, ◌^�
 ghost use Rattle.definitions.specs.Lists.{sum};
 ghost use Rattle.hierarchy.specs.Arrays.{ItemRange};
 ghost use Rattle.weights.specs.Weights.{item_in, live_part, Ranged, arrays, Within, load_in, round_to, up_to, Fitting, greatest};
+ghost use Rattle.weights.specs.Buckets.{arrays_of};
 
 use item::Item;
 
@@ -20,10 +21,8 @@ pub fn live_of<'a>(own: &'a [u32; 1024], acceptance: &'a [u32; 1024]) -> [u32; 1
     ensures { (d : ℕ) → d < 1024 → get_or result d 0 ≡ live_part (get_or acceptance.now d 0) (get_or own.now d 0) }
 {
     let mut weights = [0u32; 1024];
-    let mut d: usize = 0;
-    while d < 1024 {
+    for d in 0..1024usize {
         weights[d] = live(acceptance[d], own[d]);
-        d += 1;
     }
     weights
 }
@@ -33,13 +32,11 @@ fn weight_of<'a>(devices: &'a [u32], loads: &'a [u32], i: u32) -> u32
     requires { (length devices.now ≡ 1024) × (length loads.now ≡ 256) × ItemRange i }
     ensures { result ≡ item_in devices.now loads.now i }
 {
-    let item = Item::numbered(i);
+    let item = Item::from(i);
     if item.is_bucket() {
-        let b = item.bucket_number() as usize;
-        loads[b]
+        loads[item.bucket_number() as usize]
     } else {
-        let d = i as usize;
-        devices[d]
+        devices[i as usize]
     }
 }
 
@@ -50,73 +47,55 @@ fn total<'a>(devices: &'a [u32], loads: &'a [u32], items: &'a [u32]) -> u32
     ensures { result ≡ sum (map (item_in devices.now loads.now) items.now) }
 {
     let mut n: u32 = 0;
-    let mut i: usize = 0;
-    while i < items.len() {
-        n += weight_of(devices, loads, items[i]);
-        i += 1;
+    for i in items {
+        n += weight_of(devices, loads, *i);
     }
     n
 }
 
-// The load of bucket b: the sum of the weights of its children.
-fn load_of<'a>(
-    first: &'a [u32],
-    count: &'a [u32],
-    items: &'a [u32],
-    devices: &'a [u32],
-    loads: &'a [u32],
-    b: usize,
-) -> u32
-    requires within { Within (arrays first.now count.now items.now devices.now) × (length loads.now ≡ 256) × (b < 256) }
-    requires b_bound { load_in (arrays first.now count.now items.now devices.now) loads.now b < 2 ^ 32 }
-    ensures { result ≡ load_in (arrays first.now count.now items.now devices.now)
-        loads.now b }
-{
-    let a = first[b] as usize;
-    let n = count[b] as usize;
-    let e = a + n;
-    total(devices, loads, &items[a..e])
-}
-
-// The loads, with those of the buckets of type ty.
-fn of_type<'a>(
+// What the buckets are weighed by: of each, by its number, where its children begin in the items, how many they are, and its type; and the weights
+// of the devices. That these are `Within` their bounds is asked where it is needed: a ghost field holds propositions alone, and `ItemRange` is a choice.
+#[derive(Clone, Copy)]
+struct Buckets<'a> {
     first: &'a [u32],
     count: &'a [u32],
     items: &'a [u32],
     devices: &'a [u32],
     types: &'a [u32],
-    mut loads: [u32; 256],
-    ty: u32,
-) -> [u32; 256]
-    requires within { Within (arrays first.now count.now items.now devices.now) × (length types.now ≡ 256) }
-    requires fitting { Fitting (arrays first.now count.now items.now devices.now) types.now ty loads }
-    ensures { result ≡ round_to (arrays first.now count.now items.now devices.now)
-        types.now ty loads 256 }
-{
-    let mut b: usize = 0;
-    while b < 256 {
-        if types[b] == ty {
-            loads[b] = load_of(first, count, items, devices, &loads, b);
-        }
-        b += 1;
+}
+
+impl<'a> Buckets<'a> {
+    // The load of bucket b: the sum of the weights of its children.
+    fn load_of(&self, loads: &[u32], b: usize) -> u32
+        requires within { Within (arrays_of self.now) × (length loads.now ≡ 256) × (b < 256) }
+        requires b_bound { load_in (arrays_of self.now) loads.now b < 2 ^ 32 }
+        ensures { result ≡ load_in (arrays_of self.now) loads.now b }
+    {
+        let a = self.first[b] as usize;
+        let n = self.count[b] as usize;
+        let e = a + n;
+        total(self.devices, loads, &self.items[a..e])
     }
-    loads
+
+    // Sets the loads of the buckets of type ty.
+    fn of_type(&self, loads: &mut [u32], ty: u32)
+        requires within { Within (arrays_of self.now) × (length self.now.types.now ≡ 256) × (length loads.old ≡ 256) }
+        requires fitting { Fitting (arrays_of self.now) self.now.types.now ty loads.old }
+        ensures { loads.new ≡ round_to (arrays_of self.now) self.now.types.now ty loads.old 256 }
+    {
+        for b in 0..256usize {
+            if self.types[b] == ty {
+                loads[b] = self.load_of(loads, b);
+            }
+        }
+    }
 }
 
 // The greatest of the types: no round is needed behind it.
 fn top(types: &[u32]) -> u32
     ensures { result ≡ greatest types.now }
 {
-    let mut n: u32 = 0;
-    let mut i: usize = 0;
-    while i < types.len() {
-        let ty = types[i];
-        if n < ty {
-            n = ty;
-        }
-        i += 1;
-    }
-    n
+    types.iter().copied().max().unwrap_or(0)
 }
 
 // The loads of all buckets, by bucket number. Children have smaller types than their bucket, so theirs are known before it.
@@ -135,11 +114,15 @@ pub fn loads_of<'a>(
 {
     let most = top(types);
     let mut loads = [0u32; 256];
-    let mut ty: u32 = 0;
-    while ty < most {
-        ty += 1;
-        let next = of_type(first, count, items, devices, types, loads, ty);
-        loads = next;
+    let buckets = Buckets {
+        first,
+        count,
+        items,
+        devices,
+        types,
+    };
+    for ty in 0..most {
+        buckets.of_type(&mut loads, ty + 1);
     }
     loads
 }
@@ -150,10 +133,8 @@ pub fn weights_of<'a>(devices: &'a [u32], loads: &'a [u32], items: &'a [u32]) ->
     ensures { result ≡ map (item_in devices.now loads.now) items.now }
 {
     let mut weights = [0u32; 1280];
-    let mut i: usize = 0;
-    while i < 1280 {
+    for i in 0..1280usize {
         weights[i] = weight_of(devices, loads, items[i]);
-        i += 1;
     }
     weights
 }

@@ -12,14 +12,17 @@ use Rattle.compile.proofs.bucket_weights.Goals as goal
 pub loads_of-requires : goal.loads_of-requires
 unfolding section
 loads_of-requires c =
-    let s = c in
-    let m = s.requires.0 in
-    let w = s.requires.1 in
+    let m = c.requires.0 in
+    let w = rw (← c.plan.view_is) at c.requires.1 in
     let k = w.planned in
-    let n : length s.args.plan.now ≡ 2305 = search rules in record { within = (within m w.loadable k.arranged w.owned k.typed, section-length types_at 256 s.args.plan.now (omega (arith, n))); by_index = fitting m w.loadable k.arranged w.owned k.typed }
+    record {
+      within = (within m w.loadable k.arranged w.owned k.typed, section-length types_at 256 c.plan.inside.words (omega arith));
+      by_index = fitting m w.loadable k.arranged w.owned k.typed;
+    }
 
 pub returns : goal.returns
 unfolding section
 returns c m w =
+    let w = rw (← c.plan.view_is) at w in
     let k = w.planned in
     rw c.loads_of.ensures (loads-are m w.loadable k.arranged w.owned k.typed)

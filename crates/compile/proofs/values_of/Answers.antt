@@ -12,10 +12,9 @@ words_of-words-requires c =
 
 pub returns : goal.returns
 returns c =
-    let o = c.values_of.ensures in
-    let s = c in record {
+    let o = c.values_of.ensures in record {
       result_value = λ m w l a.
           view-is m w.loadable w.planned _ (rw o.0 a)
-          (λ b. rw o.1 (s.words_of-words.ensures b ∙ rw (s.weigh_children-weights.ensures m w l b)));
+          (λ b. rw o.1 (c.words_of-words.ensures b ∙ rw (c.weigh_children-weights.ensures m w l b)));
       result_value_2 = o.2;
     }

@@ -1,5 +1,4 @@
 -- `compile::weigh_by` meets its contract, of any such map. Assumes nothing.
-use Rattle.compile.specs.Compiled.{sound-is}
 use Rattle.compile.specs.Living.{flagged-is}
 use Rattle.compile.proofs.weigh_by.Goals as goal
 
@@ -11,15 +10,12 @@ live_weights-lives-requires c = c.requires
 
 pub values_of-values-requires : goal.values_of-values-requires
 values_of-values-requires c =
-    let b = c in
-    let (m, w, a) = b.requires in
-    (m, w, b.bucket_weights-loads.ensures m w)
+    let (m, w, a) = c.requires in
+    (m, w, c.bucket_weights-loads.ensures m w)
 
 pub returns : goal.returns
 returns c m w a =
-    let v = c in
-    let b = v in
-    let l = b.bucket_weights-loads.ensures m w in
+    let l = c.bucket_weights-loads.ensures m w in
     let o = c.values_of-values.ensures in
     let e = o.result_value m w l a in
-    (e, l, sound-is _ w.loadable w.planned, flagged-is _ w.loadable _ _ e (rw o.result_value_2 (v.live_weights-lives.ensures m w a).0))
+    (e, l, flagged-is _ w.loadable _ _ e (rw o.result_value_2 (c.live_weights-lives.ensures m w a).0))

@@ -11,10 +11,11 @@ use Rattle.compile.proofs.weigh_children.Goals as goal
 pub weights_of-requires : goal.weights_of-requires
 unfolding section
 weights_of-requires c =
-    let s = c in
-    let n : length s.args.plan.now ≡ 2305 = search rules in
-    (search rules, search rules, section-length children_at 1280 s.args.plan.now (omega (arith, n)), s.requires.1.planned.arranged.ranged)
+    let w = rw (← c.plan.view_is) at c.requires.1 in
+    (search rules, search rules, section-length children_at 1280 c.plan.inside.words (omega arith), w.planned.arranged.ranged)
 
 pub returns : goal.returns
 unfolding section
-returns c m w l b = rw c.weights_of.ensures (weights-are m w.loadable w.planned w.owned l b)
+returns c m w l b =
+    let w = rw (← c.plan.view_is) at w in
+    rw (← c.plan.view_is) (rw c.weights_of.ensures (weights-are m w.loadable w.planned w.owned l b))

@@ -1,7 +1,6 @@
 -- Nothing is read at first. Assumes nothing.
-use Rattle.std.proofs.Common.{true}
 use Rattle.console.specs.Gathering.{gathers-none}
 use Rattle.console.proofs.gather.Goals as goal
 
 pub loop-g-init : goal.loop-g-init
-loop-g-init g c = gathers-none _ true
+loop-g-init g c = gathers-none _

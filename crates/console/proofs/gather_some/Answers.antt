@@ -17,5 +17,5 @@ returns-clause-ok g c =
       gathers-more c.args.g old c.requires _ (put_mid n (length old - n) old new) (n + k - n) k c.map_part-part.result.count
           (add-sub_cancel_left n k) (take_put n (length old - n) old new c.requires.within)
           (omega (arith, kept, room, length-drop n old, c.read_some.auto.buffer, c.in_ok-count.ensures.within, c.requires.within)) refl refl e.0 e.1,
-      λ q. omega (arith, c.goes_on.ensures q),
+      omega arith,
     )

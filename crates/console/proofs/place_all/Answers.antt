@@ -1,5 +1,5 @@
 -- Behind load and fill the rows lie in the table, at most 32 places wide. Assumes nothing.
-use Rattle.std.proofs.Common.{◌≡◌, length, arith, rules}
+use Rattle.std.proofs.Common.{◌≡◌, length, refl, arith, rules}
 use Rattle.engine.specs.Calls.{filling}
 use Rattle.report.specs.Says.{load-sizes, sized, rows-room}
 use Rattle.console.proofs.place_all.Goals as goal
@@ -10,4 +10,4 @@ print_rows-requires g c =
     let k = sized f _ (load-sizes f c.args.states.now _ c.load-sizes.ensures) c.if-sizes-ne0.false in
     let r = filling f c.args.table.now _ k.loads c.fill-filled.ensures c.if-filled-ne0.false in
     let same : length c.fill-filled.new.table ≡ length c.args.table.now = search rules in
-    (omega (arith, c.wide.ensures, k.slim), rows-room f _ k _ c.wide.ensures _ (omega (arith, r.room, same)))
+    (k.slim, rows-room f _ k _ refl _ (omega (arith, r.room, same)))

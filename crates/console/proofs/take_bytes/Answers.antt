@@ -1,67 +1,54 @@
 -- One turn more: what the bytes before it led to, and then its own. Assumes nothing.
-use Rattle.std.proofs.Common.{◌≡◌, List, ℕ, ◌++◌, ◌+◌, ◌-◌, ◌≤◌, length, take, drop, sym, subst, arith, length-take, length-drop, take_all, take-add}
-use Rattle.protocol.specs.declared.asked.Program.{Program}
-use Rattle.report.specs.declared.edits.Line.{Line}
-use Rattle.report.specs.Edits.{Site, Session, site_of, session, bytes_of}
+use Rattle.std.proofs.Common.{◌≡◌, List, ℕ, [], ◌++◌, length, take, refl, sym, subst, ◌∙◌, eqb-true}
+use Rattle.report.specs.Edits.{site_of, session, bytes_of}
 use Rattle.report.specs.Kept.{Keeps}
 use Rattle.report.specs.Reads.{Led, stands-led, led-none, led-more}
 use Rattle.console.specs.Leaving.{Came}
 use Rattle.console.proofs.Outcomes.{on_err}
+use Rattle.console.proofs.Rest.{front, on, over}
 use Rattle.console.proofs.take_bytes.Goals as goal
 
--- the n bytes that a turn takes stand behind the i before it
-turned : (p : Program) (space₀ space : List ℕ) → length space ≡ length space₀ → (s : Session) (read : List ℕ) (i n : ℕ) (l t : Line) (at next : Site)
-    → i ≤ length read → Led l at (bytes_of p space₀ s (take i read))
-    → Led t next (bytes_of p space (session at (bytes_of p space₀ s (take i read)).line) (take n (take (length read - i) (drop i read))))
-    → Led t next (bytes_of p space₀ s (take (i + n) read))
-turned p space₀ space h s read i n l t at next w a b =
-    let rest : take (length read - i) (drop i read) ≡ drop i read = take_all (length read - i) (drop i read) (omega (arith, length-drop i read)) in
-    let both : take i read ++ take n (take (length read - i) (drop i read)) ≡ take (i + n) read = rw rest (sym (take-add i n read)) in
-    subst (λ (ys : List ℕ). Led t next (bytes_of p space₀ s ys)) both
-    (led-more p space₀ space h s (take i read) (take n (take (length read - i) (drop i read))) l t at next a b)
-
-pub loop-i-init : goal.loop-i-init
-loop-i-init g c =
+pub loop-rest-init : goal.loop-rest-init
+loop-rest-init g c =
     let a = c.args in
-    record {
-      within = omega arith;
-      short = c.requires.1;
-      led = led-none a.p a.line (site_of a.map.now a.table.now a.states.now) a.space.now;
-    }
+    ([], refl, led-none a.p _ (site_of a.map.now a.table.now a.states.now) a.space.now)
 
-pub loop-i-preserved : goal.loop-i-preserved
-loop-i-preserved g c =
+pub loop-rest-preserved : goal.loop-rest-preserved
+loop-rest-preserved g c =
     let a = c.args in
-    let read = a.read.now in
-    let l = c.loop-i in
+    let l = c.loop-rest in
+    let rest = l.rest.now in
     let r = c.on_bytes-run in
-    let e = r.ensures in
-    let most = length-take (length read - l.i) (drop l.i read) in
-    record {
-      within = omega (arith, e.3, most, length-drop l.i read, l.invariant.within);
-      short = e.0;
-      led = λ xs k.
-          let before = l.invariant.led xs k in
+    let before = l.invariant in
+    let n = r.result.used in (
+      before.0 ++ take n rest,
+      on before.0 rest a.read.now before.1 n r.ensures.2,
+      λ xs k.
+          let led = before.2 xs k in
           let next = site_of r.new.map r.new.table r.new.states in
-          turned a.p a.space.now l.space l.auto.space (session (site_of a.map.now a.table.now a.states.now) xs) read l.i r.result.used l.l r.result.turn.line
-          (site_of l.map l.table l.states) next l.invariant.within before (stands-led r.result.turn next r.new.space _ (e.4 _ before.line));
-    }
+          led-more a.p a.space.now l.space l.auto.space (session (site_of a.map.now a.table.now a.states.now) xs) before.0 (take n rest) l.line r.new.line
+          (site_of l.map l.table l.states) next led (stands-led r.result.said r.new.line next r.new.space _ (r.ensures.3 _ led.line)),
+    )
 
 pub returns-in_err-print_said-clause-err : goal.returns-in_err-print_said-clause-err
 returns-in_err-print_said-clause-err g c =
     let a = c.args in
-    let l = c.loop-i in
+    let l = c.loop-rest in
+    let rest = l.rest.now in
     let r = c.on_bytes-run in
+    let before = l.invariant in
+    let n = r.result.used in
     let here = site_of a.map.now a.table.now a.states.now in
     let next = site_of r.new.map r.new.table r.new.states in
-    let came : (xs : List ℕ) → Keeps a.line xs → (n : ℕ) × Came a.p a.space.now (session here xs) (take n a.read.now) next =
+    let done = before.0 ++ take n rest in
+    let came : (xs : List ℕ) → Keeps a.line.now xs → (m : ℕ) × Came a.p a.space.now (session here xs) (take m a.read.now) next =
     λ xs k.
-    let before = l.invariant.led xs k in (
-      l.i + r.result.used,
-      (
-        r.result.turn.line,
-        turned a.p a.space.now l.space l.auto.space (session here xs) a.read.now l.i r.result.used l.l r.result.turn.line
-            (site_of l.map l.table l.states) next l.invariant.within before (stands-led r.result.turn next r.new.space _ (r.ensures.4 _ before.line)),
+    let led = before.2 xs k in (
+      length done,
+      subst (λ (ys : List ℕ). Came a.p a.space.now (session here xs) ys next) (sym (front done _ a.read.now (on before.0 rest a.read.now before.1 n r.ensures.2))) (
+        r.new.line,
+        led-more a.p a.space.now l.space l.auto.space (session here xs) before.0 (take n rest) l.line r.new.line (site_of l.map l.table l.states) next led
+            (stands-led r.result.said r.new.line next r.new.space _ (r.ensures.3 _ led.line)),
       ),
     ) in
     on_err _ came
@@ -69,6 +56,8 @@ returns-in_err-print_said-clause-err g c =
 pub returns-clause-led : goal.returns-clause-led
 returns-clause-led g c = λ xs k.
     let a = c.args in
-    let l = c.loop-i in
-    subst (λ (ys : List ℕ). Led l.l (site_of l.map l.table l.states) (bytes_of a.p a.space.now (session (site_of a.map.now a.table.now a.states.now) xs) ys))
-    (take_all l.i a.read.now (omega arith)) (l.invariant.led xs k)
+    let l = c.loop-rest in
+    let before = l.invariant in
+    let none : length l.rest.now ≡ 0 = eqb-true _ 0 (sym c.is_empty.ensures ∙ c.loop-rest-test.false) in
+    subst (λ (ys : List ℕ). Led l.line (site_of l.map l.table l.states) (bytes_of a.p a.space.now (session (site_of a.map.now a.table.now a.states.now) xs) ys))
+    (over before.0 l.rest.now a.read.now before.1 none) (before.2 xs k)

@@ -1,7 +1,5 @@
 -- `crush_place::place_bytes` meets its contract: the list, and then its bytes. Assumes nothing.
-use mathlib.Core.Path.{ap, ◌∙◌}
-use mathlib.Core.List.{List}
-use Prim.Native.Nat.{ℕ}
+use Rattle.std.proofs.Common.{List, ℕ, ap, ◌∙◌}
 use Rattle.definitions.specs.Lists.{over}
 use Rattle.definitions.specs.Writing.{two_bytes}
 use Rattle.crush_place.proofs.place_bytes.Goals as goal

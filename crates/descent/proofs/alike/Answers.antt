@@ -1,50 +1,14 @@
 -- `descent::alike` meets its contract: the part of the bucket is read from the plan. Assumes nothing.
-use mathlib.Core.Path.{◌≡◌, sym, ◌∙◌}
-use Prim.Native.Nat.{◌+◌}
-use native.Mathlib.Omega.{arith}
-use Rattle.hierarchy.specs.Sections.{section-at, section-front}
-use Rattle.hierarchy.specs.Arrays.{count_at, children_at, first_in, count_in}
-use Rattle.descent.specs.Descent.{part-is}
+use Rattle.std.proofs.Common.{arith}
+use Rattle.descent.specs.Descent.{part-inside, part-is}
 use Rattle.descent.proofs.alike.Goals as goal
-use Rattle.descent.proofs.alike.Lts as lts
-use Rattle.descent.proofs.alike.Reads as reads
-use Rattle.descent.proofs.alike.Tie as tie
-
--- what is known at these places of the code
-abbrev After-wide2 : Type 0
-After-wide2 = lts.After-wide2 tie.the-claims reads.Pre reads.Post
-
-abbrev After-wide3 : Type 0
-After-wide3 = lts.After-wide3 tie.the-claims reads.Pre reads.Post
-
--- where the bucket's children begin
-begins : (c : After-wide2) → let s = c in c.wide-a.result ≡ first_in s.args.plan.now s.args.b
-begins c =
-    let s = c in
-    rw c.wide-k.ensures at c.wide-a.ensures ∙ sym (section-front 256 s.args.b s.args.plan.now s.requires.1)
-
--- and how many they are
-many : (c : After-wide3) → let s = c in c.wide-many.result ≡ count_in s.args.plan.now s.args.b
-many c =
-    let s = c in
-    rw c.wide-k.ensures at c.wide-many.ensures ∙ sym (section-at count_at 256 s.args.b s.args.plan.now s.requires.1)
-
-pub overflow_add-a : goal.overflow_add-a
-overflow_add-a c = let s = c in omega (arith, begins c.before, s.requires.0.inside s.args.b s.requires.1)
 
 pub same_part-requires : goal.same_part-requires
 same_part-requires c =
-    let w = c in
-    let f = w in
-    let s = f in
-    let i = s.requires.0.inside s.args.b s.requires.1 in
-    (omega (arith, begins f.before.before.before.before.before, many w.before.before.before, i), omega (arith, begins f.before.before.before.before.before, many w.before.before.before, i), omega (arith, many w.before.before.before, s.requires.0.narrow s.args.b s.requires.1))
+    let i = part-inside c.plan.invariant c.args.old.now c.args.b c.requires in
+    (omega arith, omega arith)
 
 pub returns : goal.returns
 returns c e =
-    let w = c in
-    let f = w in
-    let s = f in
-    let a = s.args in
-    let part = part-is s.requires.0 a.old.now a.b (children_at + f.wide-a.result) w.wide-many.result s.requires.1 (rw (begins f.before.before.before.before.before.before)) (many w.before.before.before.before) in
-    part a.old.now ∙ c.same_part.ensures e ∙ sym (part a.new.now)
+    let part = part-is c.plan.invariant c.args.old.now c.args.b c.requires in
+    rw (← c.plan.view_is, part c.args.old.now, part c.args.new.now) (c.same_part.ensures e)

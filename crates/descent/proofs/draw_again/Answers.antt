@@ -5,6 +5,5 @@ use Rattle.descent.proofs.draw_again.Goals as goal
 
 pub returns-then-alike : goal.returns-then-alike
 returns-then-alike c =
-    let s = c in
-    let a = s.args in
-    s.requires.2 ∙ draw-alike s.requires.0 a.old.now a.new.now a.x a.r a.b (c.alike.ensures c.if-alike.true)
+    let a = c.args in
+    c.requires.1 ∙ draw-alike a.plan.now a.old.now a.new.now a.x a.r a.b (c.alike.ensures c.if-alike.true)

@@ -1,66 +1,47 @@
--- `door::behind_10` meets its contract: the questions one after the other, each with what is left behind it. Assumes nothing.
-use mathlib.Core.Path.{refl, sym, ap, ◌∙◌}
-use mathlib.Core.List.{List}
-use mathlib.Core.Bool.{not}
-use Prim.Native.Nat.{ℕ}
-use borrow.Author.Rules.{rules}
-use lib.ListN.{length, get_or}
+-- `door::behind_10` meets its contract: the questions one after the other. Assumes nothing.
+use Rattle.std.proofs.Common.{sym, ap, ◌∙◌, length, get_or}
 use Rattle.definitions.specs.Lists.{first_no}
-use Rattle.definitions.specs.Map.{map_of}
 use Rattle.definitions.specs.Load.{map_questions}
 use Rattle.laws.specs.Loadable.{in_blocks_lem}
-use Rattle.door.specs.Questions.{behind, Left, all_left, passed, refused}
+use Rattle.door.specs.Questions.{behind, stopped, last}
 use Rattle.door.specs.Types.{types-length, types_are}
 use Rattle.door.proofs.behind_10.Goals as goal
 
-pub in_blocks-requires : goal.in_blocks-requires
-in_blocks-requires c =
-    let q = c.types_of-types.ensures in
-    let table = c.args.table.now in
-    record { framed = c.requires.framed; types_len = (ap length q ∙ types-length table 256, λ b h. ap (λ (l : List ℕ). get_or l b 0) q ∙ types_are _ table c.requires.levels.0 b h) }
+pub in_blocks-requires-clause-types_len : goal.in_blocks-requires-clause-types_len
+in_blocks-requires-clause-types_len c =
+    let q = c.types_of.ensures in
+    let levels = c.args.levels.now in
+    (ap length q ∙ types-length levels 256, λ b h. ap (λ l. get_or l b 0) q ∙ types_are _ levels c.requires.levels.0 b h)
 
-pub returns-then-not-in_blocks : goal.returns-then-not-in_blocks
-unfolding map_questions behind
-returns-then-not-in_blocks c = refused (all_left 10 (map_of c.args.t.now)) refl c.in_blocks.ensures (ap not c.if-not-in_blocks.true)
+pub slim-requires-clause-t_len_bound : goal.slim-requires-clause-t_len_bound
+slim-requires-clause-t_len_bound c = (in_blocks_lem _ (sym c.in_blocks.ensures ∙ c.in_ok-ask.ensures)).most
 
-pub returns-then-not-typed : goal.returns-then-not-typed
-unfolding map_questions behind
-returns-then-not-typed c =
-    let left11 : Left 10 11 (map_of c.args.t.now) = passed (all_left 10 _) refl c.in_blocks.ensures (ap not c.if-not-in_blocks.false) in
-    refused left11 refl c.typed.ensures (ap not c.if-not-typed.true)
+pub returns-in_err-ask : goal.returns-in_err-ask
+unfolding map_questions behind first_no
+returns-in_err-ask c =
+    let h = c.in_err-ask.ensures in
+    stopped _ _ _ _ c.from_residual.result c.from_residual.ensures.1 h.1 (simp (sym c.in_blocks.ensures ∙ h.0))
 
-pub slim-requires : goal.slim-requires
-slim-requires c = record { framed = search rules; t_len_bound = (in_blocks_lem _ (sym c.in_blocks.ensures ∙ c.if-not-in_blocks.false)).most }
+pub returns-in_err-ask-2 : goal.returns-in_err-ask-2
+unfolding map_questions behind first_no
+returns-in_err-ask-2 c =
+    let h = c.in_err-ask-2.ensures in
+    stopped _ _ _ _ c.from_residual-in_err-ask-2.result c.from_residual-in_err-ask-2.ensures.1 h.1 (simp (sym c.in_blocks.ensures ∙ c.in_ok-ask.ensures, sym c.typed.ensures ∙ h.0))
 
-pub returns-then-not-slim : goal.returns-then-not-slim
-unfolding map_questions behind
-returns-then-not-slim c =
-    let left11 : Left 10 11 (map_of c.args.t.now) = passed (all_left 10 _) refl c.in_blocks.ensures (ap not c.if-not-in_blocks.false) in
-    let left21 : Left 10 21 (map_of c.args.t.now) = passed left11 refl c.typed.ensures (ap not c.if-not-typed.false) in
-    refused left21 refl c.slim.ensures (ap not c.if-not-slim.true)
+pub returns-in_err-ask-3 : goal.returns-in_err-ask-3
+unfolding map_questions behind first_no
+returns-in_err-ask-3 c =
+    let h = c.in_err-ask-3.ensures in
+    stopped _ _ _ _ c.from_residual-in_err-ask-3.result c.from_residual-in_err-ask-3.ensures.1 h.1 (simp (sym c.in_blocks.ensures ∙ c.in_ok-ask.ensures, sym c.typed.ensures ∙ c.in_ok-ask-2.ensures, sym c.slim.ensures ∙ h.0))
 
-pub returns-then-not-summed : goal.returns-then-not-summed
-unfolding map_questions behind
-returns-then-not-summed c =
-    let left11 : Left 10 11 (map_of c.args.t.now) = passed (all_left 10 _) refl c.in_blocks.ensures (ap not c.if-not-in_blocks.false) in
-    let left21 : Left 10 21 (map_of c.args.t.now) = passed left11 refl c.typed.ensures (ap not c.if-not-typed.false) in
-    let left12 : Left 10 12 (map_of c.args.t.now) = passed left21 refl c.slim.ensures (ap not c.if-not-slim.false) in
-    refused left12 refl c.summed.ensures (ap not c.if-not-summed.true)
-
-pub returns-then-not-light : goal.returns-then-not-light
-unfolding map_questions behind
-returns-then-not-light c =
-    let left11 : Left 10 11 (map_of c.args.t.now) = passed (all_left 10 _) refl c.in_blocks.ensures (ap not c.if-not-in_blocks.false) in
-    let left21 : Left 10 21 (map_of c.args.t.now) = passed left11 refl c.typed.ensures (ap not c.if-not-typed.false) in
-    let left12 : Left 10 12 (map_of c.args.t.now) = passed left21 refl c.slim.ensures (ap not c.if-not-slim.false) in
-    let left23 : Left 10 23 (map_of c.args.t.now) = passed left12 refl c.summed.ensures (ap not c.if-not-summed.false) in
-    refused left23 refl c.light.ensures (ap not c.if-not-light.true)
+pub returns-in_err-ask-4 : goal.returns-in_err-ask-4
+unfolding map_questions behind first_no
+returns-in_err-ask-4 c =
+    let h = c.in_err-ask-4.ensures in
+    stopped _ _ _ _ c.from_residual-in_err-ask-4.result c.from_residual-in_err-ask-4.ensures.1 h.1 (simp (sym c.in_blocks.ensures ∙ c.in_ok-ask.ensures, sym c.typed.ensures ∙ c.in_ok-ask-2.ensures, sym c.slim.ensures ∙ c.in_ok-ask-3.ensures, sym c.summed.ensures ∙ h.0))
 
 pub returns : goal.returns
 unfolding map_questions behind first_no
 returns c =
-    let left11 : Left 10 11 (map_of c.args.t.now) = passed (all_left 10 _) refl c.in_blocks.ensures (ap not c.if-not-in_blocks.false) in
-    let left21 : Left 10 21 (map_of c.args.t.now) = passed left11 refl c.typed.ensures (ap not c.if-not-typed.false) in
-    let left12 : Left 10 12 (map_of c.args.t.now) = passed left21 refl c.slim.ensures (ap not c.if-not-slim.false) in
-    let left23 : Left 10 23 (map_of c.args.t.now) = passed left12 refl c.summed.ensures (ap not c.if-not-summed.false) in
-    sym (passed left23 refl c.light.ensures (ap not c.if-not-light.false)).is
+    last _ _ _ _ c.ask-5.ensures (λ h. simp (sym c.in_blocks.ensures ∙ c.in_ok-ask.ensures, sym c.typed.ensures ∙ c.in_ok-ask-2.ensures, sym c.slim.ensures ∙ c.in_ok-ask-3.ensures, sym c.summed.ensures ∙ c.in_ok-ask-4.ensures, sym c.light.ensures ∙ h))
+    (λ h. simp (sym c.in_blocks.ensures ∙ c.in_ok-ask.ensures, sym c.typed.ensures ∙ c.in_ok-ask-2.ensures, sym c.slim.ensures ∙ c.in_ok-ask-3.ensures, sym c.summed.ensures ∙ c.in_ok-ask-4.ensures, sym c.light.ensures ∙ h))

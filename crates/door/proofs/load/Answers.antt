@@ -1,138 +1,65 @@
--- `door::load` meets its contract: the answers one after the other, and then those behind 6. Assumes nothing.
-use mathlib.Core.Path.{sym, ◌∙◌}
-use borrow.Author.Rules.{rules}
+-- `door::load` meets its contract: the questions one after the other, and then those behind 6. Assumes nothing.
+use Rattle.std.proofs.Common.{refl, sym, ◌∙◌}
 use Rattle.definitions.specs.Lists.{first_no}
 use Rattle.definitions.specs.Load.{text_questions, map_questions, load_number}
 use Rattle.text.specs.RoundTrip.{Framed}
 use Rattle.text.specs.Loading.{behind-text}
-use Rattle.door.specs.Questions.{behind}
+use Rattle.door.specs.Questions.{behind, stopped}
 use Rattle.door.proofs.load.Goals as goal
 
-pub returns-then-not-sized : goal.returns-then-not-sized
+pub returns-in_err-ask : goal.returns-in_err-ask
 unfolding load_number text_questions first_no
-returns-then-not-sized c = simp (sym c.sized.ensures ∙ c.if-not-sized.true)
+returns-in_err-ask c =
+    let h = c.in_err-ask.ensures in
+    stopped _ _ _ _ c.from_residual.result c.from_residual.ensures.1 h.1 (simp (sym c.sized.ensures ∙ h.0))
 
-pub formed-requires : goal.formed-requires
-formed-requires c = sym c.sized.ensures ∙ c.if-not-sized.false
-
-pub returns-then-not-formed : goal.returns-then-not-formed
+pub returns-in_err-ask-2 : goal.returns-in_err-ask-2
 unfolding load_number text_questions first_no
-returns-then-not-formed c = simp (sym c.sized.ensures ∙ c.if-not-sized.false, sym c.formed.ensures ∙ c.if-not-formed.true)
+returns-in_err-ask-2 c =
+    let h = c.in_err-ask-2.ensures in
+    stopped _ _ _ _ c.from_residual-in_err-ask-2.result c.from_residual-in_err-ask-2.ensures.1 h.1 (simp (sym c.sized.ensures ∙ c.in_ok-ask.ensures, sym c.formed.ensures ∙ h.0))
 
-pub outline_of-o-requires : goal.outline_of-o-requires
-outline_of-o-requires c =
-    (sym c.sized.ensures ∙ c.if-not-sized.false, sym c.formed.ensures ∙ c.if-not-formed.false)
-
-pub returns-then-not-ordered : goal.returns-then-not-ordered
+pub returns-in_err-ask-3 : goal.returns-in_err-ask-3
 unfolding load_number text_questions first_no
-returns-then-not-ordered c =
+returns-in_err-ask-3 c =
     let o = c.outline_of-o.ensures in
-    simp (
-      sym c.sized.ensures ∙ c.if-not-sized.false,
-      sym c.formed.ensures ∙ c.if-not-formed.false,
-      sym (c.ordered.ensures _ o.0 o.1) ∙ c.if-not-ordered.true,
-    )
+    let h = c.in_err-ask-3.ensures in
+    stopped _ _ _ _ c.from_residual-in_err-ask-3.result c.from_residual-in_err-ask-3.ensures.1 h.1 (simp (sym c.sized.ensures ∙ c.in_ok-ask.ensures, sym c.formed.ensures ∙ c.in_ok-ask-2.ensures, sym (c.ordered.ensures _ o.0 o.1) ∙ h.0))
 
-pub counted-requires : goal.counted-requires
-counted-requires c =
-    let o = c.outline_of-o.ensures in (
-      sym c.sized.ensures ∙ c.if-not-sized.false,
-      sym c.formed.ensures ∙ c.if-not-formed.false,
-      sym (c.ordered.ensures _ o.0 o.1) ∙ c.if-not-ordered.false,
-      o.0,
-    )
-
-pub returns-then-not-counted : goal.returns-then-not-counted
+pub returns-in_err-ask-4 : goal.returns-in_err-ask-4
 unfolding load_number text_questions first_no
-returns-then-not-counted c =
+returns-in_err-ask-4 c =
     let o = c.outline_of-o.ensures in
-    simp (
-      sym c.sized.ensures ∙ c.if-not-sized.false,
-      sym c.formed.ensures ∙ c.if-not-formed.false,
-      sym (c.ordered.ensures _ o.0 o.1) ∙ c.if-not-ordered.false,
-      sym c.counted.ensures ∙ c.if-not-counted.true,
-    )
+    let h = c.in_err-ask-4.ensures in
+    stopped _ _ _ _ c.from_residual-in_err-ask-4.result c.from_residual-in_err-ask-4.ensures.1 h.1 (simp (sym c.sized.ensures ∙ c.in_ok-ask.ensures, sym c.formed.ensures ∙ c.in_ok-ask-2.ensures, sym (c.ordered.ensures _ o.0 o.1) ∙ c.in_ok-ask-3.ensures, sym c.counted.ensures ∙ h.0))
 
-pub ranged-requires : goal.ranged-requires
-ranged-requires c =
-    let o = c.outline_of-o.ensures in
-    let framed : Framed c.args.t.now = record {
-      sized = sym c.sized.ensures ∙ c.if-not-sized.false;
-      formed = sym c.formed.ensures ∙ c.if-not-formed.false;
-      ordered = sym (c.ordered.ensures _ o.0 o.1) ∙ c.if-not-ordered.false;
-      counted = sym c.counted.ensures ∙ c.if-not-counted.false;
-    } in
-    (framed, search rules)
-
-pub returns-then-not-ranged : goal.returns-then-not-ranged
+pub returns-in_err-ask-5 : goal.returns-in_err-ask-5
 unfolding map_questions first_no
-returns-then-not-ranged c =
+returns-in_err-ask-5 c =
     let o = c.outline_of-o.ensures in
-    let framed : Framed c.args.t.now = record {
-      sized = sym c.sized.ensures ∙ c.if-not-sized.false;
-      formed = sym c.formed.ensures ∙ c.if-not-formed.false;
-      ordered = sym (c.ordered.ensures _ o.0 o.1) ∙ c.if-not-ordered.false;
-      counted = sym c.counted.ensures ∙ c.if-not-counted.false;
-    } in
-    sym (behind-text _ framed ∙ simp (sym c.ranged.ensures ∙ c.if-not-ranged.true))
+    let framed : Framed c.args.t.now = record { sized = sym c.sized.ensures ∙ c.in_ok-ask.ensures; formed = sym c.formed.ensures ∙ c.in_ok-ask-2.ensures; ordered = sym (c.ordered.ensures _ o.0 o.1) ∙ c.in_ok-ask-3.ensures; counted = sym c.counted.ensures ∙ c.in_ok-ask-4.ensures } in
+    let h = c.in_err-ask-5.ensures in
+    stopped _ _ _ _ c.from_residual-in_err-ask-5.result c.from_residual-in_err-ask-5.ensures.1 h.1 (behind-text _ framed ∙ simp (sym c.ranged.ensures ∙ h.0))
 
-pub rising-requires : goal.rising-requires
-rising-requires c =
-    let o = c.outline_of-o.ensures in
-    let framed : Framed c.args.t.now = record {
-      sized = sym c.sized.ensures ∙ c.if-not-sized.false;
-      formed = sym c.formed.ensures ∙ c.if-not-formed.false;
-      ordered = sym (c.ordered.ensures _ o.0 o.1) ∙ c.if-not-ordered.false;
-      counted = sym c.counted.ensures ∙ c.if-not-counted.false;
-    } in
-    (framed, search rules)
-
-pub returns-then-not-rising : goal.returns-then-not-rising
+pub returns-in_err-ask-6 : goal.returns-in_err-ask-6
 unfolding map_questions first_no
-returns-then-not-rising c =
+returns-in_err-ask-6 c =
     let o = c.outline_of-o.ensures in
-    let framed : Framed c.args.t.now = record {
-      sized = sym c.sized.ensures ∙ c.if-not-sized.false;
-      formed = sym c.formed.ensures ∙ c.if-not-formed.false;
-      ordered = sym (c.ordered.ensures _ o.0 o.1) ∙ c.if-not-ordered.false;
-      counted = sym c.counted.ensures ∙ c.if-not-counted.false;
-    } in
-    sym (behind-text _ framed ∙ simp (sym c.ranged.ensures ∙ c.if-not-ranged.false, sym c.rising.ensures ∙ c.if-not-rising.true))
+    let framed : Framed c.args.t.now = record { sized = sym c.sized.ensures ∙ c.in_ok-ask.ensures; formed = sym c.formed.ensures ∙ c.in_ok-ask-2.ensures; ordered = sym (c.ordered.ensures _ o.0 o.1) ∙ c.in_ok-ask-3.ensures; counted = sym c.counted.ensures ∙ c.in_ok-ask-4.ensures } in
+    let h = c.in_err-ask-6.ensures in
+    stopped _ _ _ _ c.from_residual-in_err-ask-6.result c.from_residual-in_err-ask-6.ensures.1 h.1 (behind-text _ framed ∙ simp (sym c.ranged.ensures ∙ c.in_ok-ask-5.ensures, sym c.rising.ensures ∙ h.0))
 
-pub items_of-items-requires : goal.items_of-items-requires
-items_of-items-requires c =
+pub returns-in_err-behind_6 : goal.returns-in_err-behind_6
+unfolding map_questions behind first_no
+returns-in_err-behind_6 c =
     let o = c.outline_of-o.ensures in
-    let framed : Framed c.args.t.now = record {
-      sized = sym c.sized.ensures ∙ c.if-not-sized.false;
-      formed = sym c.formed.ensures ∙ c.if-not-formed.false;
-      ordered = sym (c.ordered.ensures _ o.0 o.1) ∙ c.if-not-ordered.false;
-      counted = sym c.counted.ensures ∙ c.if-not-counted.false;
-    } in
-    (framed, search rules, sym c.ranged.ensures ∙ c.if-not-ranged.false, sym c.rising.ensures ∙ c.if-not-rising.false)
-
-pub behind_6-requires : goal.behind_6-requires
-behind_6-requires c =
-    let o = c.outline_of-o.ensures in
-    let framed : Framed c.args.t.now = record {
-      sized = sym c.sized.ensures ∙ c.if-not-sized.false;
-      formed = sym c.formed.ensures ∙ c.if-not-formed.false;
-      ordered = sym (c.ordered.ensures _ o.0 o.1) ∙ c.if-not-ordered.false;
-      counted = sym c.counted.ensures ∙ c.if-not-counted.false;
-    } in
-    record {
-      framed = (framed, o.0, sym c.ranged.ensures ∙ c.if-not-ranged.false, sym c.rising.ensures ∙ c.if-not-rising.false);
-      levels = (c.items_of-items.ensures.levels, c.items_of-items.ensures.weights);
-    }
+    let framed : Framed c.args.t.now = record { sized = sym c.sized.ensures ∙ c.in_ok-ask.ensures; formed = sym c.formed.ensures ∙ c.in_ok-ask-2.ensures; ordered = sym (c.ordered.ensures _ o.0 o.1) ∙ c.in_ok-ask-3.ensures; counted = sym c.counted.ensures ∙ c.in_ok-ask-4.ensures } in
+    stopped _ _ _ _ c.from_residual-in_err-behind_6.result c.from_residual-in_err-behind_6.ensures.1 refl
+    (behind-text _ framed ∙ simp (sym c.ranged.ensures ∙ c.in_ok-ask-5.ensures, sym c.rising.ensures ∙ c.in_ok-ask-6.ensures) c.in_err-behind_6.ensures)
 
 pub returns : goal.returns
 unfolding map_questions behind first_no
 returns c =
     let o = c.outline_of-o.ensures in
-    let framed : Framed c.args.t.now = record {
-      sized = sym c.sized.ensures ∙ c.if-not-sized.false;
-      formed = sym c.formed.ensures ∙ c.if-not-formed.false;
-      ordered = sym (c.ordered.ensures _ o.0 o.1) ∙ c.if-not-ordered.false;
-      counted = sym c.counted.ensures ∙ c.if-not-counted.false;
-    } in
-    c.behind_6.ensures
-    ∙ sym (behind-text _ framed ∙ simp (sym c.ranged.ensures ∙ c.if-not-ranged.false, sym c.rising.ensures ∙ c.if-not-rising.false))
+    let framed : Framed c.args.t.now = record { sized = sym c.sized.ensures ∙ c.in_ok-ask.ensures; formed = sym c.formed.ensures ∙ c.in_ok-ask-2.ensures; ordered = sym (c.ordered.ensures _ o.0 o.1) ∙ c.in_ok-ask-3.ensures; counted = sym c.counted.ensures ∙ c.in_ok-ask-4.ensures } in
+    (behind-text _ framed ∙ simp (sym c.ranged.ensures ∙ c.in_ok-ask-5.ensures, sym c.rising.ensures ∙ c.in_ok-ask-6.ensures) c.in_ok-behind_6.ensures, refl)

@@ -1,4 +1,5 @@
 -- `edit_frame::change_of` meets its contract: fourteen digits, and the three fields at their places. Assumes nothing.
+use Rattle.std.specs.Prelude.{None, Some}
 use mathlib.Core.Path.{◌≡◌, sym, ◌∙◌}
 use mathlib.Core.Bool.{true, false}
 use mathlib.Core.List.{List, [], ◌∷◌}
@@ -6,19 +7,19 @@ use Prim.Native.Nat.{ℕ}
 use lib.ListN.{length, drop}
 use lib.Seq.{drop-drop}
 use borrow.Author.Tests.{eq-eqb, ne_eqb}
-use Rattle.definitions.specs.declared.Change.TheVariants.{Acceptance, Weight, Malformed}
+use Rattle.definitions.specs.declared.Change.TheVariants.{Acceptance, Weight}
 use Rattle.definitions.specs.Lists.{every}
 use Rattle.definitions.specs.Frames.{is_digit, value, fields_of}
 use Rattle.definitions.specs.Edit.{edit_layout, change_by, change_of}
 use Rattle.edit_frame.proofs.change_of.Goals as goal
 
 -- not fourteen bytes
-not-long : (f : List ℕ) → (length f ≡ 14 → ⊥) → change_of f ≡ Malformed
+not-long : (f : List ℕ) → (length f ≡ 14 → ⊥) → change_of f ≡ None
 unfolding change_of
 not-long f n = rw (ne_eqb (length f) 14 n)
 
 -- not all digits
-not-digits : (f : List ℕ) → length f ≡ 14 → every is_digit f ≡ false → change_of f ≡ Malformed
+not-digits : (f : List ℕ) → length f ≡ 14 → every is_digit f ≡ false → change_of f ≡ None
 unfolding change_of
 not-digits f l e = rw (eq-eqb (length f) 14 l, e)
 
@@ -29,15 +30,15 @@ unfolding change_of fields_of edit_layout
 by-fields f k d v l e p q r = rw (eq-eqb (length f) 14 l, e, p, q, r, drop-drop 4 2 f)
 
 -- by their kind
-acceptance : (k d v : ℕ) → k ≡ 33 → change_by k (d ∷ v ∷ []) ≡ Acceptance d v
+acceptance : (k d v : ℕ) → k ≡ 33 → change_by k (d ∷ v ∷ []) ≡ Some (Acceptance d v)
 unfolding change_by
 acceptance k d v e = rw (eq-eqb k 33 e)
 
-weight : (k d v : ℕ) → (k ≡ 33 → ⊥) → k ≡ 34 → change_by k (d ∷ v ∷ []) ≡ Weight d v
+weight : (k d v : ℕ) → (k ≡ 33 → ⊥) → k ≡ 34 → change_by k (d ∷ v ∷ []) ≡ Some (Weight d v)
 unfolding change_by
 weight k d v n e = rw (ne_eqb k 33 n, eq-eqb k 34 e)
 
-neither : (k d v : ℕ) → (k ≡ 33 → ⊥) → (k ≡ 34 → ⊥) → change_by k (d ∷ v ∷ []) ≡ Malformed
+neither : (k d v : ℕ) → (k ≡ 33 → ⊥) → (k ≡ 34 → ⊥) → change_by k (d ∷ v ∷ []) ≡ None
 unfolding change_by
 neither k d v n m = rw (ne_eqb k 33 n, ne_eqb k 34 m)
 

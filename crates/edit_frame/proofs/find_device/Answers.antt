@@ -1,10 +1,6 @@
 -- `edit_frame::find_device` meets its contract. The loop's invariant: a device with the number is among those from `k` on just
 -- where there is one at all. Assumes nothing.
-use mathlib.Core.Path.{refl, sym, ap, ◌∙◌}
-use native.Mathlib.Omega.{arith}
-use lib.Dec.{eqb}
-use borrow.Author.Rules.{rules}
-use borrow.Author.Tests.{ne_eqb}
+use Rattle.std.proofs.Common.{◌∙◌, refl, sym, ap, arith, eqb, ne_eqb}
 use Rattle.definitions.specs.declared.Device.{Device}
 use Rattle.definitions.specs.Map.{map_of}
 use Rattle.definitions.specs.Load.{has_device}
@@ -14,26 +10,21 @@ use Rattle.edit_frame.proofs.find_device.Goals as goal
 
 pub loop-k-init : goal.loop-k-init
 unfolding has_device
-loop-k-init c = (search rules, refl)
+loop-k-init c = refl
 
-pub returns-then-e-d : goal.returns-then-e-d
+pub returns-then-read-d : goal.returns-then-read-d
 unfolding FoundIs
-returns-then-e-d c =
-    let d = c.device-e in
-    (search rules, ap (λ (e : Device). e.number) (sym d.ensures) ∙ c.if-e-d.true)
+returns-then-read-d c = (omega (arith, c.count-k-end.ensures), ap (λ (e : Device). e.number) (sym c.read.ensures) ∙ c.if-read-d.true)
 
 pub loop-k-preserved : goal.loop-k-preserved
 loop-k-preserved c =
-    let d = c.device-e in
-    let a = c.args in (
-      search rules,
-      some_next (λ (e : Device). eqb e.number a.d) (map_of a.t.now).devices c.loop-k.k no_device (omega arith)
-          (ap (λ (e : Device). eqb e.number a.d) (sym d.ensures) ∙ ne_eqb _ _ c.if-e-d.false)
-          ∙ c.loop-k.invariant.1,
-    )
+    let test = λ (e : Device). eqb e.number c.args.d in
+    some_next test (map_of c.args.text.now).devices c.loop-k.k no_device (omega (arith, c.count-k-end.ensures))
+    (ap test (sym c.read.ensures) ∙ ne_eqb _ _ c.if-read-d.false)
+    ∙ c.loop-k.invariant
 
 pub returns : goal.returns
 unfolding FoundIs
 returns c =
-    let a = c.args in
-    sym c.loop-k.invariant.1 ∙ some_end (λ (e : Device). eqb e.number a.d) (map_of a.t.now).devices c.loop-k.k (omega arith)
+    let test = λ (e : Device). eqb e.number c.args.d in
+    sym c.loop-k.invariant ∙ some_end test (map_of c.args.text.now).devices c.loop-k.k (omega (arith, c.count-k-end.ensures, c.loop-k-test.false))

@@ -15,7 +15,7 @@ use Rattle.edit_frame.proofs.put_sums.Goals as goal
 pub loop-k-init : goal.loop-k-init
 loop-k-init c =
     let t = c.args.t.now in
-    (search rules, refl, subst (Edited t) (to_none c.args.sums.now (map_of t)) (unedited t c.requires.0))
+    (refl, subst (Edited t) (to_none c.args.sums.now (map_of t)) (unedited t c.requires.0))
 
 pub bring_up-requires : goal.bring_up-requires
 bring_up-requires c =
@@ -23,7 +23,7 @@ bring_up-requires c =
     let m = map_of t in
     let ws = c.args.sums.now in
     let k = c.loop-k.k in
-    let E = c.loop-k.invariant.2 in
+    let E = c.loop-k.invariant.1 in
     let at : k < length m.buckets = omega (arith, shape-buckets t c.args.s c.requires.1) in record {
       framed = (
         E.framed,
@@ -39,9 +39,8 @@ loop-k-preserved c =
     let m = map_of t in
     let ws = c.args.sums.now in
     let k = c.loop-k.k in
-    let E = c.loop-k.invariant.2 in
+    let E = c.loop-k.invariant.1 in
     let at : k < length m.buckets = omega (arith, shape-buckets t c.args.s c.requires.1) in (
-      search rules,
       search rules,
       subst (Edited _)
           (ap (λ (n : Map). with_bucket k (borne_by ws (get_or n.buckets k no_bucket)) n) E.holds ∙ to-more ws m k at) c.bring_up.ensures,
@@ -52,5 +51,5 @@ returns c =
     let t = c.args.t.now in
     let m = map_of t in
     subst (Edited _)
-    (to-all c.args.sums.now m c.loop-k.k (omega (arith, c.loop-k-test.false, shape-buckets t c.args.s c.requires.1)))
-    c.loop-k.invariant.2
+    (to-all c.args.sums.now m c.loop-k.k (omega (arith, shape-buckets t c.args.s c.requires.1)))
+    c.loop-k.invariant.1

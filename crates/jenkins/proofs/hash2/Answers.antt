@@ -1,5 +1,4 @@
 -- `jenkins::hash2` meets its contract: what the three mixes ensure, put together. Assumes nothing.
-use Rattle.std.proofs.Common.{rules}
 use Rattle.definitions.specs.Hash.{hash2}
 use Rattle.jenkins.proofs.hash2.Goals as goal
 

@@ -1,5 +1,4 @@
 -- `jenkins::hash3_two` meets its contract: of each hash, what its five mixes ensure, put together. Assumes nothing.
-use Rattle.std.proofs.Common.{rules}
 use Rattle.definitions.specs.Hash.{hash3}
 use Rattle.jenkins.proofs.hash3_two.Goals as goal
 

@@ -1,5 +1,4 @@
 -- `jenkins::hash4` meets its contract: what the six mixes ensure, put together. Assumes nothing.
-use Rattle.std.proofs.Common.{rules}
 use Rattle.definitions.specs.Hash.{hash4}
 use Rattle.jenkins.proofs.hash4.Goals as goal
 

@@ -1,10 +1,6 @@
-use Rattle.std.proofs.Common.{◌≡◌, ◌-◌, ◌≤◌, drop, ◌∙◌, arith, rules}
-use Rattle.definitions.specs.Hash.{rows, mix_steps, mix}
-use Rattle.laws.specs.Hash.{step-more}
+use Rattle.std.proofs.Common.{◌≡◌, drop}
+use Rattle.definitions.specs.Hash.{rows, mix_steps}
 use Rattle.jenkins.proofs.mix.Given as goal
 
-abbrev pub invariant-loop-i : goal.invariant-loop-i
-invariant-loop-i l = (l.i ≤ 9) × (mix_steps (drop l.i rows) l.n ≡ mix_steps rows l.initial.n)
-
-abbrev pub decreases-loop-i : goal.decreases-loop-i
-decreases-loop-i l = 9 - l.i
+abbrev pub invariant-loop-r : goal.invariant-loop-r
+invariant-loop-r l = mix_steps (drop l.r-index rows) l.n ≡ mix_steps rows l.initial.n

@@ -13,7 +13,7 @@ use Rattle.descent.specs.Descent.{typed-bucket, bucket-below}
 use Rattle.walk.specs.declared.Search.{Search}
 use Rattle.walk.specs.Searches.{inward, reached_by, rank_at}
 use Rattle.walk.specs.Bounds.{Typed, try-most, fill-adds, fail-adds, failed-bounds, tried-bounds, end-bounds}
-use Rattle.walk.specs.Tests.{told-first, told-independent, told-held, told-sought, told-dead}
+use Rattle.walk.specs.Tests.{told-plain, told-held, told-sought, told-dead}
 use Rattle.walk.proofs.+rank_test_turn.Goals as goal
 
 -- ---- rank
@@ -28,7 +28,7 @@ rank-rank_end-requires t c =
     let a = c.args in
     let l = c.loop-s in (
       omega (arith, l.invariant.1, l.invariant.3),
-      fill-adds (view_in a.plan.now a.values.now) a.x a.search a.held.now l.s _ _ _ (sym c.turn-k.ensures.value ∙ c.in-Fill.is),
+      fill-adds (view_in a.plan.now a.values.now) a.x a.search a.held.now l.s _ _ _ (sym c.turn.ensures.value ∙ c.in-Fill.is),
     )
 
 pub rank-returns-in-Fill : goal.rank-returns-in-Fill
@@ -37,13 +37,13 @@ rank-returns-in-Fill t c =
     let v = view_in a.plan.now a.values.now in
     let l = c.loop-s in
     let below : l.s.fr < 50 = omega (arith, c.loop-s-test.true) in
-    let turned = sym c.turn-k.ensures.value ∙ c.in-Fill.is in
+    let turned = sym c.turn.ensures.value ∙ c.in-Fill.is in
     let filled = fill-adds v a.x a.search a.held.now l.s _ _ _ turned in
     record {
       value = c.rank_end.ensures ∙ comes-fill v _ _ _ _ _ _ _ _ l.s _ _ _ below l.invariant.4 turned;
       bounds =
           end-bounds a.plan.now _ a.f0 _ _ _ l.s l.invariant.1 l.invariant.2 (omega (arith, l.invariant.3, below, filled))
-          (inr (c.turn-k.ensures.bounds.0 _ _ _ c.in-Fill.is)) _ c.rank_end.ensures;
+          (inr (c.turn.ensures.bounds.0 _ _ _ c.in-Fill.is)) _ c.rank_end.ensures;
     }
 
 -- a turn that does not fill the place is one failure more, and makes at most 50 tries within
@@ -51,7 +51,7 @@ pub rank-loop-s-smaller : goal.rank-loop-s-smaller
 rank-loop-s-smaller t c =
     let a = c.args in
     let v = view_in a.plan.now a.values.now in
-    let rose = turn-fails v _ _ _ _ _ _ _ c.loop-s.s c.in-Fail.next (sym c.turn-k.ensures.value ∙ c.in-Fail.is) in
+    let rose = turn-fails v _ _ _ _ _ _ _ c.loop-s.s c.in-Fail.next (sym c.turn.ensures.value ∙ c.in-Fail.is) in
     omega (arith, rose.0, c.loop-s-test.true)
 
 pub rank-loop-s-preserved : goal.rank-loop-s-preserved
@@ -59,10 +59,10 @@ rank-loop-s-preserved t c =
     let a = c.args in
     let v = view_in a.plan.now a.values.now in
     let l = c.loop-s in
-    let turned = sym c.turn-k.ensures.value ∙ c.in-Fail.is in
+    let turned = sym c.turn.ensures.value ∙ c.in-Fail.is in
     let rose = turn-fails v _ _ _ _ _ _ _ l.s c.in-Fail.next turned in
     let added = fail-adds v a.x a.search a.held.now l.s _ turned in (
-      c.turn-k.ensures.bounds.1 _ c.in-Fail.is,
+      c.turn.ensures.bounds.1 _ c.in-Fail.is,
       omega (arith, rose.0, c.loop-s-test.true),
       omega (arith, rose.0, rose.1, l.invariant.2),
       omega (arith, rose.0, added, l.invariant.3),
@@ -91,15 +91,8 @@ not_through e = let z : ◌≡◌ {A = ℕ} 0 1 = cc in omega arith
 pub test-returns-in-FirstN : goal.test-returns-in-FirstN
 test-returns-in-FirstN t c =
     let a = c.args in
-    let told = told-first a.plan.now a.values.now a.x a.search a.held.now a.q a.i c.plain_test.result c.in-FirstN.is
+    let told = told-plain a.plan.now a.values.now a.x a.search a.held.now a.q a.i c.plain_test.result c.in-FirstN.is
     c.requires.testable.3 c.plain_test.ensures in
-    record { value = told.0; bounds = told.1 }
-
-pub test-returns-in-Independent : goal.test-returns-in-Independent
-test-returns-in-Independent t c =
-    let a = c.args in
-    let told = told-independent a.plan.now a.values.now a.x a.search a.held.now a.q a.i c.plain_test-in-Independent.result
-    c.in-Independent.is c.requires.testable.3 c.plain_test-in-Independent.ensures in
     record { value = told.0; bounds = told.1 }
 
 pub test-returns-then-holds : goal.test-returns-then-holds
@@ -122,7 +115,7 @@ test-returns-then-is_dead t c =
     let p = c.requires.testable in
     let bucket = typed-bucket a.plan.now a.i 0 (omega (arith, p.3.1, p.1 c.in-Through.is)) in
     let told = told-dead a.plan.now a.values.now a.x a.search a.held.now a.q a.i c.given_up.result c.in-Through.is
-    (sym c.holds.ensures ∙ c.if-holds.false) c.requires.sound.1 bucket (bucket-below a.i p.3.0 bucket)
+    (sym c.holds.ensures ∙ c.if-holds.false) c.requires.flagged bucket (bucket-below a.i p.3.0 bucket)
     (sym c.is_dead.ensures ∙ c.if-is_dead.true) c.given_up.ensures in
     record { value = told.0; bounds = told.1 }
 
@@ -140,7 +133,7 @@ test-rank-k-requires t c =
     rw c.inner-beneath.ensures (
       omega (arith, c.decreases, two-below a.search.wanted.mode c.in-Through.is),
       (
-        c.requires.sound,
+        c.requires.flagged,
         ((bucket-below a.i p.3.0 bucket, p.0, p.2 c.in-Through.is, (λ q. absurd (not_through q)), λ q. absurd (not_through q)), omega arith),
       ),
     )
@@ -177,7 +170,7 @@ turn-returns-then-type_of-t t c =
     record {
       value =
           turn-other (view_in a.plan.now a.values.now) _ _ _ _ _ _ _ a.s _ c.try_number-q.ensures _ c.descend-l.ensures.value _
-          c.in-Winner.is (λ q. c.if-type_of-t.true (c.type_of.ensures ∙ q)) _ f.ensures;
+          c.in-Some.is (λ q. c.if-type_of-t.true ((rw c.plan.view_is at c.type_of.ensures) ∙ q)) _ f.ensures;
       bounds = failed-bounds a.plan.now _ a.search.start 0 a.s f.result c.requires.search_bounds.0.0 f.ensures;
     }
 
@@ -188,12 +181,12 @@ turn-test-w-requires t c =
     let p = c.requires.search_bounds in (
       omega (arith, c.decreases),
       (
-        c.requires.sound,
+        c.requires.flagged,
         (
           p.0.1,
           p.0.4,
           (λ e. omega (arith, c.try_number-q.ensures, try-most a.search a.s p.0 p.2 e)),
-          (c.descend-l.ensures.bounds.1 _ c.in-Winner.is, sym c.type_of.ensures ∙ c.if-type_of-t.false),
+          (c.descend-l.ensures.bounds.1 _ c.in-Some.is, sym (rw c.plan.view_is at c.type_of.ensures) ∙ c.if-type_of-t.false),
         ),
       ),
     )
@@ -212,7 +205,7 @@ turn-returns t c =
     record {
       value =
           turn-tested (view_in a.plan.now a.values.now) _ _ _ _ _ _ _ a.s _ c.try_number-q.ensures _ c.descend-l.ensures.value _
-          c.in-Winner.is (sym c.type_of.ensures ∙ c.if-type_of-t.false) _ c.test-w.ensures.value _ c.on_tried.ensures;
+          c.in-Some.is (sym (rw c.plan.view_is at c.type_of.ensures) ∙ c.if-type_of-t.false) _ c.test-w.ensures.value _ c.on_tried.ensures;
       bounds =
           tried-bounds a.plan.now _ a.search.start a.s _ _ _ c.requires.search_bounds.0.0 c.descend-l.ensures.bounds.0 c.test-w.ensures.bounds _
           c.on_tried.ensures;

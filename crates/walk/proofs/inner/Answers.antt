@@ -9,4 +9,4 @@ pub returns : goal.returns
 returns c =
     let a = c.args in
     ap (λ (b : ℕ). record { wanted = record { mode = Independent; n = a.n; t = 0 }; start = b; r = a.q })
-    (c.bucket_number-start.ensures ∙ ap bucket_number c.numbered-bucket.ensures)
+    (c.bucket_number-start.ensures ∙ ap bucket_number c.from-bucket.ensures)

@@ -17,10 +17,10 @@ After-bucket_number = lts.After-bucket_number tie.the-claims reads.Pre reads.Pos
 
 -- the number read is the item's
 number : (c : After-bucket_number) → c.bucket_number-b.result ≡ bucket_number c.args.i
-number c = c.bucket_number-b.ensures ∙ ap bucket_number c.numbered-bucket.ensures
+number c = c.bucket_number-b.ensures ∙ ap bucket_number c.from-bucket.ensures
 
 below : (c : After-bucket_number) → bucket_number c.args.i < 256
-below c = let s = c in bucket-below s.args.i s.requires.0 s.requires.1
+below c = bucket-below c.args.i c.requires.0 c.requires.1
 
 pub overflow_add-result : goal.overflow_add-result
 overflow_add-result c = omega (arith, number c, below c)
@@ -33,6 +33,5 @@ bounds-values-b c = omega (arith, number c.before.before, below c.before.before)
 
 pub returns : goal.returns
 returns c =
-    let n = c in
-    let a = n.args in
-    rw (number n.before.before.before, ← section-at live_at 256 (bucket_number a.i) a.values.now (below n.before.before.before)) refl
+    let a = c.args in
+    rw (number c.before.before.before, ← section-at live_at 256 (bucket_number a.i) a.values.now (below c.before.before.before)) refl

@@ -2,4 +2,4 @@
 use Rattle.walk.proofs.plain_test.Goals as goal
 
 pub returns : goal.returns
-returns c = simp (c.plain.ensures, c.verdict-w.ensures)
+returns c = simp (c.plain.ensures, rw c.plan.view_is at c.verdict-w.ensures)

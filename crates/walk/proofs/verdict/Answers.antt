@@ -10,11 +10,9 @@ returns-then-holds c = simp (sym c.holds.ensures ∙ c.if-holds.true)
 pub returns-then-accepts : goal.returns-then-accepts
 unfolding verdict_of
 returns-then-accepts c =
-    let a = c in
-    simp (sym a.holds.ensures ∙ a.if-holds.false, sym a.accepts.ensures ∙ c.if-accepts.true)
+    simp (sym c.holds.ensures ∙ c.if-holds.false, sym c.accepts.ensures ∙ c.if-accepts.true)
 
 pub returns-else-accepts : goal.returns-else-accepts
 unfolding verdict_of
 returns-else-accepts c =
-    let a = c in
-    simp (sym a.holds.ensures ∙ a.if-holds.false, sym a.accepts.ensures ∙ c.if-accepts.false)
+    simp (sym c.holds.ensures ∙ c.if-holds.false, sym c.accepts.ensures ∙ c.if-accepts.false)

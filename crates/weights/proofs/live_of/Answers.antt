@@ -3,22 +3,20 @@ use mathlib.Core.Path.{refl, ◌∙◌}
 use Prim.Native.Nat.{ℕ}
 use native.Mathlib.Omega.{arith}
 use lib.ListN.{get_or, length-set}
-use borrow.Author.Rules.{rules}
 use Rattle.weights.specs.Weights.{live_part, filled_more}
 use Rattle.weights.proofs.live_of.Goals as goal
 
 pub loop-d-init : goal.loop-d-init
-loop-d-init c = (search rules, refl, λ j h. absurd (omega arith))
+loop-d-init c = (refl, λ j h. absurd (omega arith))
 
 pub loop-d-preserved : goal.loop-d-preserved
 loop-d-preserved c =
-    let l = c.loop-d in
-    let s = c in (
-      search rules,
-      length-set l.weights l.d c.live.result ∙ l.invariant.1,
-      filled_more (λ (j : ℕ). live_part (get_or s.args.acceptance.now j 0) (get_or s.args.own.now j 0)) l.weights l.d l.invariant.2 c.live.result
+    let a = c.args in
+    let l = c.loop-d in (
+      length-set l.weights l.d c.live.result ∙ l.invariant.0,
+      filled_more (λ (j : ℕ). live_part (get_or a.acceptance.now j 0) (get_or a.own.now j 0)) l.weights l.d l.invariant.1 c.live.result
           (omega arith) c.live.ensures,
     )
 
 pub returns : goal.returns
-returns c d h = let l = c.loop-d in l.invariant.2 d (omega arith)
+returns c d h = c.loop-d.invariant.1 d (omega arith)

@@ -1,5 +1,4 @@
-use mathlib.Core.Path.{◌≡◌}
-use Prim.Native.Nat.{◌+◌, ◌-◌, ◌*◌, ◌<◌, ◌≤◌}
+use Rattle.std.specs.Prelude.{◌≡◌, ◌+◌, ◌-◌, ◌*◌, ◌<◌, ◌≤◌}
 use Rattle.hierarchy.specs.Arrays.{view_in}
 use Rattle.laws.specs.Walk.{Comes}
 use Rattle.walk.specs.Searches.{test_at, rank_at}

@@ -1,45 +1,17 @@
 -- `causes::joint::rank_under` meets its contract: nothing under a hole, and two ranks made at once at a bucket. Assumes nothing.
-use mathlib.Core.Path.{◌≡◌, ap, ◌∙◌}
-use native.Mathlib.Omega.{arith}
+use Rattle.std.proofs.Common.{ap, ◌∙◌}
 use Rattle.definitions.specs.Map.{bucket_number}
 use Rattle.hierarchy.specs.Arrays.{view_in}
 use Rattle.placement.specs.Bare.{unranked}
-use Rattle.placement.specs.Working.{bucket-of}
 use Rattle.causes.specs.Joint.{shares-hole, shares-rank}
 use Rattle.causes.proofs.joint.rank_under.Goals as goal
-use Rattle.causes.proofs.joint.rank_under.Lts as lts
-use Rattle.causes.proofs.joint.rank_under.Reads as reads
-use Rattle.causes.proofs.joint.rank_under.Tie as tie
-
--- what is known at these places of the code
-abbrev After-bucket_number : Type 0
-After-bucket_number = lts.After-bucket_number tie.the-claims reads.Pre reads.Post tie.handed_clauses
-
--- the bucket's number
-number : (c : After-bucket_number) → c.bucket_number.result ≡ bucket_number c.args.a
-number c = c.bucket_number.ensures ∙ ap bucket_number c.numbered-bucket.ensures
 
 pub returns-then-a-eq-HOLE : goal.returns-then-a-eq-HOLE
 unfolding unranked
 returns-then-a-eq-HOLE c = shares-hole _ _ _ _ _ _ _ _ c.if-a-eq-HOLE.true
 
-pub bucket_number-requires : goal.bucket_number-requires
-bucket_number-requires c =
-    let e = c in
-    let s = e in
-    omega (arith, c.numbered-bucket.ensures, (bucket-of s.args.a s.requires.n_bound.3 e.if-a-eq-HOLE.false).0)
-
-pub rank_ends-requires : goal.rank_ends-requires
-rank_ends-requires c =
-    let e = c in
-    let s = e in
-    let p = s.requires.n_bound in
-    let b = bucket-of s.args.a p.3 e.if-a-eq-HOLE.false in
-    record { sound = s.requires.sound; search_bounds = ((omega (arith, number c.before, b.1), p.0, omega (arith, p.1), λ q. p.1, p.2), p.4) }
-
 pub returns : goal.returns
 returns c =
-    let b = c in
-    let e = b in
-    let a = e.args in
-    shares-rank (view_in a.plan.now a.old.now) (view_in a.plan.now a.new.now) a.x a.wanted a.a a.r a.held.now a.f _ c.rank_ends.result e.if-a-eq-HOLE.false (number b.before.before) c.rank_ends.ensures
+    let a = c.args in
+    shares-rank (view_in a.plan.now a.old.now) (view_in a.plan.now a.new.now) a.x a.wanted a.a a.r a.held.now a.f _ c.rank_ends.result
+    c.if-a-eq-HOLE.false (c.bucket_number.ensures ∙ ap bucket_number c.from-bucket.ensures) c.rank_ends.ensures

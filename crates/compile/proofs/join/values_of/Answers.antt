@@ -9,11 +9,10 @@ use Rattle.compile.proofs.join.values_of.Goals as goal
 
 pub returns : goal.returns
 returns c =
-    let e = c in
-    let a = e.lay.ensures in
-    let w = e.lay-2.ensures in
+    let a = c.lay.ensures in
+    let w = c.lay-2.ensures in
     let l = c.lay-3.ensures in
-    let n : length e.lay.new.to ≡ 2560 = search rules in (
+    let n : length c.lay.new.to ≡ 2560 = search rules in (
       laid-front l 0 1024 (omega arith) (omega (arith, n, w.long)) ∙ laid-front w 0 1024 (omega arith) (omega (arith, n)) ∙ laid-here a 1024 (search rules) (omega (arith, n, a.long)),
       laid-front l children_at 1280 (omega arith) (omega (arith, n, w.long)) ∙ laid-here w 1280 (search rules) (omega (arith, n)),
       laid-here l 256 (search rules) (omega (arith, n, w.long)),

@@ -8,33 +8,28 @@ use Rattle.compile.proofs.trees.add_up.Goals as goal
 
 pub loop-i-init : goal.loop-i-init
 unfolding sum
-loop-i-init c = (omega arith, refl, summed-none c.args.a c.args.words.now)
+loop-i-init c = (refl, summed-none c.args.a c.args.words.now)
 
 pub bounds-words-a : goal.bounds-words-a
-bounds-words-a c = let l = c in omega (arith, l.loop-i.invariant.2.long, l.requires.0)
+bounds-words-a c = omega (arith, c.loop-i.invariant.1.long, c.requires.0)
 
 pub overflow_add-sum-in-loop-i : goal.overflow_add-sum-in-loop-i
 overflow_add-sum-in-loop-i c =
-    let l = c in
-    let s = l in
-    let a = s.args in
-    let i = l.loop-i.invariant in
-    record { fits = omega (arith, summed-fits a.a l.loop-i.i a.words.now l.loop-i.words i.2 l.loop-i.sum a.n i.1 (omega arith) s.requires.1) }
+    let a = c.args in
+    let i = c.loop-i.invariant in
+    record { fits = omega (arith, summed-fits a.a c.loop-i.i a.words.now c.loop-i.words i.1 c.loop-i.sum a.n i.0 (omega arith) c.requires.1) }
 
 pub loop-i-preserved : goal.loop-i-preserved
 loop-i-preserved c =
-    let l = c in
-    let s = l in
-    let a = s.args in
-    let i = l.loop-i.invariant in
-    let e = summed-next a.a l.loop-i.i a.words.now l.loop-i.words i.2 l.loop-i.sum i.1 in
-    (omega arith, e, summed-more a.a l.loop-i.i a.words.now l.loop-i.words i.2 _ (omega (arith, s.requires.0)) e)
+    let a = c.args in
+    let i = c.loop-i.invariant in
+    let e = summed-next a.a c.loop-i.i a.words.now c.loop-i.words i.1 c.loop-i.sum i.0 in
+    (e, summed-more a.a c.loop-i.i a.words.now c.loop-i.words i.1 _ (omega (arith, c.requires.0)) e)
 
 pub shape_of-words : goal.shape_of-words
-shape_of-words c = c.loop-i.invariant.2.long
+shape_of-words c = c.loop-i.invariant.1.long
 
 pub returns : goal.returns
 returns c =
-    let l = c in
-    let a = l.args in
-    summed-all a.a l.loop-i.i a.words.now l.loop-i.words l.loop-i.invariant.2 a.n (omega arith)
+    let a = c.args in
+    summed-all a.a c.loop-i.i a.words.now c.loop-i.words c.loop-i.invariant.1 a.n (omega arith)

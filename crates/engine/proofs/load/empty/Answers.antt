@@ -1,5 +1,4 @@
 -- `engine::load::empty` meets its contract. Assumes nothing.
-use borrow.Author.Rules.{rules}
 use Rattle.engine.specs.Stores.{emptied}
 use Rattle.engine.proofs.load.empty.Goals as goal
 

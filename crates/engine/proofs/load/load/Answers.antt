@@ -1,5 +1,4 @@
 -- `engine::load::load` meets its contract. Assumes nothing.
-use borrow.Author.Rules.{rules}
 use Rattle.engine.specs.Stores.{load-emptied, load-left}
 use Rattle.engine.proofs.load.load.Goals as goal
 

@@ -1,6 +1,5 @@
 -- `frames::digits::char_of` meets its contract: below 10 a decimal digit, from 10 on a letter. Assumes nothing.
 use mathlib.Core.Path.{sym}
-use borrow.Author.Rules.{rules}
 use Rattle.text.specs.Digits.{byte_small, byte-large}
 use Rattle.frames.proofs.digits.char_of.Goals as goal
 

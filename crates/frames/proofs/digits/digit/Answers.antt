@@ -1,20 +1,22 @@
 -- `frames::digits::digit` meets its contract: each return is one of the five ranges of a byte. Assumes nothing.
-use mathlib.Core.Path.{sym}
-use borrow.Author.Rules.{rules}
+use Rattle.std.proofs.Common.{◌≡◌, ◌+◌, ◌-◌, ◌≤◌, sym, ◌∙◌, arith}
 use Rattle.text.specs.Digits.{low, decimal, between, letter, above}
 use Rattle.frames.proofs.digits.digit.Goals as goal
 
-pub returns-then-b-lt48 : goal.returns-then-b-lt48
-returns-then-b-lt48 c = (sym (low _ c.if-b-lt48.true).1, search rules)
+pub returns-in_default : goal.returns-in_default
+returns-in_default c = (sym (low c.args.b (omega arith)).1, omega arith)
 
-pub returns-then-b-le57 : goal.returns-then-b-le57
-returns-then-b-le57 c = (sym (decimal _ c.if-b-lt48.false c.if-b-le57.true).1, search rules)
+pub returns-in-48-to-57 : goal.returns-in-48-to-57
+returns-in-48-to-57 c = (sym (decimal c.args.b (omega arith) (omega arith)).1, omega arith)
 
-pub returns-then-b-lt97 : goal.returns-then-b-lt97
-returns-then-b-lt97 c = (sym (between _ c.if-b-le57.false c.if-b-lt97.true).1, search rules)
+pub returns-in-97-to-102 : goal.returns-in-97-to-102
+returns-in-97-to-102 c =
+    let h : 97 ≤ c.args.b = omega arith in
+    let e : c.args.b - 97 + 10 ≡ c.args.b - 87 = omega arith in
+    (e ∙ sym (letter c.args.b (omega arith) (omega arith)).1, omega arith)
 
-pub returns-then-b-le102 : goal.returns-then-b-le102
-returns-then-b-le102 c = (sym (letter _ c.if-b-lt97.false c.if-b-le102.true).1, search rules)
+pub returns-in_default-2 : goal.returns-in_default-2
+returns-in_default-2 c = (sym (between c.args.b (omega arith) (omega arith)).1, omega arith)
 
-pub returns : goal.returns
-returns c = (sym (above _ c.if-b-le102.false).1, search rules)
+pub returns-in_default-3 : goal.returns-in_default-3
+returns-in_default-3 c = (sym (above c.args.b (omega arith)).1, omega arith)

@@ -1,14 +1,13 @@
 -- `frames::lines::all_allowed` meets its contract. The loop's invariant: the answer so far, joined with the one for the bytes from `i` on, is the
 -- answer for all. Assumes nothing.
-use mathlib.Core.Path.{◌≡◌, refl, sym, ◌∙◌}
+use mathlib.Core.Path.{◌≡◌, sym, ◌∙◌}
 use mathlib.Core.Bool.{Bool, ◌&&◌, and_assoc, and-true}
 use mathlib.Core.List.{List}
-use Prim.Native.Nat.{ℕ, ◌+◌, ◌-◌, ◌<◌, ◌≤◌}
+use Prim.Native.Nat.{ℕ, ◌+◌, ◌<◌}
 use native.Mathlib.Omega.{arith}
 use native.Mathlib.Numerals.{add-one}
 use lib.ListN.{length, get_or, drop}
 use lib.Seq.{drop-cons}
-use borrow.Author.Rules.{rules}
 use Rattle.definitions.specs.Lists.{every}
 use Rattle.definitions.specs.Load.{allowed}
 use Rattle.laws.specs.Lists.{every-end}
@@ -19,12 +18,8 @@ joined : (a : Bool) (t : List ℕ) (i : ℕ) → i < length t → a && allowed (
 unfolding every
 joined a t i h = rw (add-one i, drop-cons t i 0 h) (and_assoc a _ _)
 
-pub loop-i-preserved : goal.loop-i-preserved
-loop-i-preserved c =
-    let l = c in
-    (search rules, rw c.is_allowed-all.ensures (joined l.loop-i.all l.args.t.now l.loop-i.i (omega arith) ∙ l.loop-i.invariant.1))
+pub loop-b-preserved : goal.loop-b-preserved
+loop-b-preserved c = rw c.is_allowed-all.ensures (joined c.loop-b.all c.args.t.now c.loop-b.b-index (omega arith) ∙ c.loop-b.invariant)
 
 pub returns : goal.returns
-returns c =
-    let l = c in
-    sym (and-true _) ∙ rw (sym (every-end allowed l.args.t.now l.loop-i.i (omega arith))) l.loop-i.invariant.1
+returns c = sym (and-true _) ∙ rw (sym (every-end allowed c.args.t.now c.loop-b.b-index (omega arith))) c.loop-b.invariant

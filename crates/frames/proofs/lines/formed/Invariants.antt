@@ -1,14 +1,9 @@
-use mathlib.Core.Path.{◌≡◌, sym, ◌∙◌}
+use mathlib.Core.Path.{◌≡◌}
 use Prim.Native.Nat.{◌-◌, ◌≤◌}
-use native.Mathlib.Omega.{arith}
-use lib.ListN.{length, drop, drop_of_length-le}
-use borrow.Author.Tests.{not-true, not-false}
-use borrow.Author.Rules.{rules}
+use lib.ListN.{length, drop}
 use Rattle.definitions.specs.Lists.{every}
 use Rattle.definitions.specs.Frames.{lines_of}
-use Rattle.definitions.specs.Load.{line_formed, formed}
-use Rattle.laws.specs.Lists.{every_first, every-fails}
-use Rattle.text.specs.Lines.{plain}
+use Rattle.definitions.specs.Load.{line_formed}
 use Rattle.frames.proofs.lines.formed.Given as goal
 
 abbrev pub invariant-loop-at : goal.invariant-loop-at

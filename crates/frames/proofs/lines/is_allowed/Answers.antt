@@ -1,6 +1,5 @@
 -- `frames::lines::is_allowed` meets its contract: a digit, or the byte 10. Assumes nothing.
 use mathlib.Core.Path.{refl}
-use borrow.Author.Rules.{rules}
 use Rattle.frames.proofs.lines.is_allowed.Goals as goal
 
 pub returns : goal.returns

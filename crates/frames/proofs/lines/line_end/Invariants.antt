@@ -1,9 +1,7 @@
 use mathlib.Core.Path.{◌≡◌}
 use Prim.Native.Nat.{◌+◌, ◌-◌, ◌<◌, ◌≤◌}
-use native.Mathlib.Omega.{arith}
 use lib.ListN.{length, drop}
-use borrow.Author.Rules.{rules}
-use Rattle.text.specs.Lines.{first, not_last, first_next, first-stop, line_at}
+use Rattle.text.specs.Lines.{first}
 use Rattle.frames.proofs.lines.line_end.Given as goal
 
 abbrev pub invariant-loop-e : goal.invariant-loop-e

@@ -2,7 +2,6 @@
 use mathlib.Core.Path.{sym, ◌∙◌}
 use Prim.Native.Nat.{◌-◌}
 use native.Mathlib.Omega.{arith}
-use borrow.Author.Rules.{rules}
 use Rattle.text.specs.Frames.{bad-short, bad_kind, by_length, part-kind, part_length}
 use Rattle.frames.proofs.lines.line_formed.Goals as goal
 
@@ -15,9 +14,6 @@ pub returns-then-k-gt5 : goal.returns-then-k-gt5
 returns-then-k-gt5 c =
     let a = c.args in
     sym (bad_kind _ (rw (part-kind a.t.now a.at (a.e - a.at) (omega arith), ← c.field-k.ensures) c.if-k-gt5.true))
-
--- ? array-read-result : goal.array-read-result
--- array-read-result c = search rules
 
 pub returns : goal.returns
 returns c =

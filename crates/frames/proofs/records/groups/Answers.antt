@@ -7,9 +7,8 @@ use Rattle.frames.proofs.records.groups.Goals as goal
 
 pub read_eight-requires : goal.read_eight-requires
 read_eight-requires c =
-    let s = c in
-    let g = groups-at s.args.t.now s.requires in
-    (omega (arith, g.1), digits_in s.args.t.now 0 2 8 _ g.2 (omega arith))
+    let g = groups-at c.args.t.now c.requires in
+    (omega (arith, g.1), digits_in c.args.t.now 0 2 8 _ g.2 (omega arith))
 
 pub returns : goal.returns
-returns c = let s = c in c.read_eight.ensures ∙ (groups-at s.args.t.now s.requires).0
+returns c = c.read_eight.ensures ∙ (groups-at c.args.t.now c.requires).0

@@ -15,8 +15,7 @@ After-field = lts.After-field tie.the-claims reads.Pre reads.Post
 -- what is known of the line, at the kind that was read
 here : (c : After-field) → let a = c.args in Known a.t.now a.at c.field-kind.result
 here c =
-    let p = c in
-    rw c.field-kind.ensures (known p.args.t.now p.args.at p.requires.0 p.requires.1 p.requires.2)
+    rw c.field-kind.ensures (known c.args.t.now c.args.at c.requires.0 c.requires.1 c.requires.2)
 
 pub field-kind-requires : goal.field-kind-requires
 field-kind-requires c = ((known c.args.t.now c.args.at c.requires.0 c.requires.1 c.requires.2).two, search rules)

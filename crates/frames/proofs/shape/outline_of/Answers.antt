@@ -1,19 +1,16 @@
 -- `frames::shape::outline_of` meets its contract. The loop's invariant: what is counted, with the counts of the lines from `at` on, is the shape,
 -- and the answer so far, joined with the one for their kinds behind `last`, is the answer for all; each count is at most `at`, so that nothing
 -- wraps. Assumes nothing.
-use mathlib.Core.Path.{◌≡◌, refl, sym, ◌∙◌}
-use mathlib.Core.Bool.{true, ◌&&◌, and-true}
-use Prim.Native.Nat.{◌+◌, ◌-◌, ◌≤◌}
+use mathlib.Core.Path.{refl, sym, ◌∙◌}
+use mathlib.Core.Bool.{and-true}
+use Prim.Native.Nat.{◌+◌}
 use native.Mathlib.Omega.{arith}
-use lib.Dec.{leb}
-use lib.ListN.{length, drop}
 use borrow.Author.Rules.{rules}
-use Rattle.definitions.specs.Lists.{every, linked_from}
-use Rattle.definitions.specs.Frames.{lines_of, frames_in}
-use Rattle.definitions.specs.Load.{line_formed, formed, kinds_of, sorted}
+use Rattle.definitions.specs.Lists.{linked_from}
+use Rattle.definitions.specs.Load.{formed}
 use Rattle.text.specs.Lines.{plain}
 use Rattle.text.specs.Frames.{sorted_more, none_left}
-use Rattle.text.specs.Shape.{Small, shape_of, plus, more-small, none-shape, shape-next, shape-end, small-le}
+use Rattle.text.specs.Shape.{more-small, none-shape, shape-next, shape-end, small-le}
 use Rattle.frames.proofs.shape.outline_of.Goals as goal
 
 pub loop-at-init : goal.loop-at-init
@@ -24,23 +21,21 @@ pub line_at-l-requires : goal.line_at-l-requires
 line_at-l-requires c = (search rules, (plain _ c.requires.0).last, c.loop-at.invariant.1)
 
 pub count-s-requires : goal.count-s-requires
-count-s-requires c = let l = c in small-le _ _ _ l.loop-at.invariant.2 (omega (arith, (plain _ l.requires.0).most))
+count-s-requires c = small-le _ _ _ c.loop-at.invariant.2 (omega (arith, (plain _ c.requires.0).most))
 
 pub loop-at-preserved : goal.loop-at-preserved
 loop-at-preserved c =
-    let n = c in
-    let l = n.loop-at in
-    let r = n.line_at-l.ensures in (
+    let l = c.loop-at in
+    let r = c.line_at-l.ensures in (
       r.1,
       r.4,
-      rw n.count-s.ensures (more-small _ _ (l.at + 1) _ l.invariant.2 (omega (arith, r.0))),
-      rw n.count-s.ensures (shape-next _ _ _ _ _ _ l.invariant.3 r.3 r.2),
+      rw c.count-s.ensures (more-small _ _ (l.at + 1) _ l.invariant.2 (omega (arith, r.0))),
+      rw c.count-s.ensures (shape-next _ _ _ _ _ _ l.invariant.3 r.3 r.2),
       sorted_more _ _ _ _ l.last l.sorted r.3 r.2 ∙ l.invariant.4,
     )
 
 pub returns : goal.returns
 unfolding linked_from
 returns c =
-    let l = c in
-    let n = none_left l.args.t.now l.loop-at.at (omega arith) in
-    (shape-end _ _ _ l.loop-at.invariant.3 n, sym (and-true l.loop-at.sorted) ∙ rw n at l.loop-at.invariant.4)
+    let n = none_left c.args.t.now c.loop-at.at (omega arith) in
+    (shape-end _ _ _ c.loop-at.invariant.3 n, sym (and-true c.loop-at.sorted) ∙ rw n at c.loop-at.invariant.4)

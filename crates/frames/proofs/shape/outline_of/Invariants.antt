@@ -1,16 +1,12 @@
-use mathlib.Core.Path.{◌≡◌, refl, sym, ◌∙◌}
-use mathlib.Core.Bool.{true, ◌&&◌, and-true}
+use mathlib.Core.Path.{◌≡◌}
+use mathlib.Core.Bool.{true, ◌&&◌}
 use Prim.Native.Nat.{◌+◌, ◌-◌, ◌≤◌}
-use native.Mathlib.Omega.{arith}
 use lib.Dec.{leb}
 use lib.ListN.{length, drop}
-use borrow.Author.Rules.{rules}
 use Rattle.definitions.specs.Lists.{every, linked_from}
 use Rattle.definitions.specs.Frames.{lines_of, frames_in}
-use Rattle.definitions.specs.Load.{line_formed, formed, kinds_of, sorted}
-use Rattle.text.specs.Lines.{plain}
-use Rattle.text.specs.Frames.{sorted_more, none_left}
-use Rattle.text.specs.Shape.{Small, shape_of, plus, more-small, none-shape, shape-next, shape-end, small-le}
+use Rattle.definitions.specs.Load.{line_formed, kinds_of, sorted}
+use Rattle.text.specs.Shape.{Small, shape_of, plus}
 use Rattle.frames.proofs.shape.outline_of.Given as goal
 
 abbrev pub invariant-loop-at : goal.invariant-loop-at

@@ -2,24 +2,20 @@
 use mathlib.Core.Path.{◌∙◌}
 use native.Mathlib.Omega.{arith}
 use lib.ListN.{drop}
-use borrow.Author.Rules.{rules}
 use Rattle.frames.specs.Words.{ones, spread-room, spread-lt, read-eight}
 use Rattle.frames.proofs.words.read_eight.Goals as goal
 
 pub spread-requires : goal.spread-requires
 unfolding ones
 spread-requires c =
-    let s = c in
-    (omega arith, rw c.eight.ensures (spread-room 8 (drop s.args.at s.args.s.now) s.requires.1))
+    (omega arith, rw c.eight.ensures (spread-room 8 (drop c.args.at c.args.s.now) c.requires.1))
 
 pub packed-requires : goal.packed-requires
 unfolding ones
 packed-requires c =
-    let s = c in
-    rw (c.spread.ensures, c.eight.ensures) (spread-lt 8 (drop s.args.at s.args.s.now) s.requires.1 (omega arith))
+    rw (c.spread.ensures, c.eight.ensures) (spread-lt 8 (drop c.args.at c.args.s.now) c.requires.1 (omega arith))
 
 pub returns : goal.returns
 unfolding ones
 returns c =
-    let s = c in
-    c.packed.ensures ∙ rw (c.spread.ensures, c.eight.ensures) (read-eight (drop s.args.at s.args.s.now) s.requires.1)
+    c.packed.ensures ∙ rw (c.spread.ensures, c.eight.ensures) (read-eight (drop c.args.at c.args.s.now) c.requires.1)

@@ -2,18 +2,15 @@
 use mathlib.Core.Path.{◌∙◌}
 use native.Mathlib.Omega.{arith}
 use lib.ListN.{drop}
-use borrow.Author.Rules.{rules}
 use Rattle.frames.specs.Words.{ones, spread-room, read-four}
 use Rattle.frames.proofs.words.read_four.Goals as goal
 
 pub spread-requires : goal.spread-requires
 unfolding ones
 spread-requires c =
-    let s = c in
-    (omega arith, rw c.four.ensures.0 (spread-room 4 (drop s.args.at s.args.s.now) s.requires.1))
+    (omega arith, rw c.four.ensures.0 (spread-room 4 (drop c.args.at c.args.s.now) c.requires.1))
 
 pub returns : goal.returns
 unfolding ones
 returns c =
-    let s = c in
-    c.packed.ensures ∙ rw (c.spread.ensures, c.four.ensures.0) (read-four (drop s.args.at s.args.s.now) s.requires.1)
+    c.packed.ensures ∙ rw (c.spread.ensures, c.four.ensures.0) (read-four (drop c.args.at c.args.s.now) c.requires.1)

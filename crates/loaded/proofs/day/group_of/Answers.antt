@@ -10,19 +10,15 @@ use Rattle.text.specs.Loading.{loaded}
 use Rattle.loaded.specs.Day.{day-below}
 use Rattle.loaded.proofs.day.group_of.Goals as goal
 
-pub groups-g-requires : goal.groups-g-requires
-groups-g-requires c = (loaded _ c.requires).framed
-
 pub nonzero_rem-result : goal.nonzero_rem-result
 nonzero_rem-result c =
-    let g = c in
-    omega (arith, g.groups-g.ensures, (ranged-is _ (loaded _ g.requires).ranged).least)
+    let e = rw c.text.view_is at c.groups-g.ensures in
+    omega (arith, e, (ranged-is _ (loaded _ c.requires).ranged).least)
 
 pub returns : goal.returns
 unfolding day_group view_of
 returns c =
-    let g = c in
-    let s = g in
-    let f = s.args.map.now in
-    let p : c.hash2.result % g.groups-g.result ≡ day_group (map_of f) s.args.show s.args.day = rw (c.hash2.ensures, g.groups-g.ensures) refl in
-    (p, rw p (day-below f s.args.show s.args.day s.requires))
+    let a = c.args in
+    let e = rw c.text.view_is at c.groups-g.ensures in
+    let p : c.hash2.result % c.groups-g.result ≡ day_group (map_of a.text.now) a.show a.day = rw (c.hash2.ensures, e) refl in
+    (p, rw p (day-below a.text.now a.show a.day c.requires))

@@ -13,26 +13,26 @@ use Rattle.loaded.proofs.row.place_into.Goals as goal
 
 pub compile-h-requires : goal.compile-h-requires
 compile-h-requires c =
-    record { t_value = c.requires.0; s_value = c.requires.1; loadable = rw (no-edit _) (loaded-map _ c.requires.0) }
+    record { loads = c.requires.0; loadable = rw (no-edit _) (loaded-map _ c.requires.0) }
 
 pub place_row-requires : goal.place_row-requires
 place_row-requires c =
     let h = c.compile-h.result in
     let e = c.compile-h.ensures in
-    let C : Compiled (map_of c.args.map.now) h.plan h.values h.rule =
-    compiled-from _ _ _ _ _ refl (e.values_value ∙ ap view_of (no-edit _)) e.sound e.flagged e.rule_value in
-    let R = compiled-runs _ _ _ _ (loaded-map _ c.requires.0) C _ c.requires.2 in
+    let C : Compiled (map_of c.args.text.now) h.plan h.values h.rule =
+    compiled-from _ _ _ _ _ refl (e.values_value ∙ ap view_of (no-edit _)) e.flagged e.rule_value in
+    let R = compiled-runs _ _ _ _ (loaded-map _ c.requires.0) C _ c.requires.1 in
     record { len_bound = (R.0, R.1); len_in_bounds = R.2 }
 
 pub returns : goal.returns
 returns c =
     let h = c.compile-h.result in
     let e = c.compile-h.ensures in
-    let C : Compiled (map_of c.args.map.now) h.plan h.values h.rule =
-    compiled-from _ _ _ _ _ refl (e.values_value ∙ ap view_of (no-edit _)) e.sound e.flagged e.rule_value in
+    let C : Compiled (map_of c.args.text.now) h.plan h.values h.rule =
+    compiled-from _ _ _ _ _ refl (e.values_value ∙ ap view_of (no-edit _)) e.flagged e.rule_value in
     let v = view_in h.plan h.values in
     let n = h.rule.len in
-    let p = placed-is (map_of c.args.map.now) c.args.x v (actions_in h.rule) n C.view C.actions C.len in (
-      c.place_row.ensures.0 ∙ ap (λ (w : ℕ). filled_up w (bare_run_to v c.args.x (actions_in h.rule) n).list) c.requires.2 ∙ p.0,
+    let p = placed-is (map_of c.args.text.now) c.args.x v (actions_in h.rule) n C.view C.actions C.len in (
+      c.place_row.ensures.0 ∙ ap (λ (w : ℕ). filled_up w (bare_run_to v c.args.x (actions_in h.rule) n).list) c.requires.1 ∙ p.0,
       c.place_row.ensures.1 ∙ p.1,
     )

@@ -1,39 +1,43 @@
 -- `lockstep::partings::cause` meets its contract, case by case. Assumes nothing.
-use Rattle.definitions.specs.Edit.{cause_of, is_held}
+use Rattle.std.proofs.Common.{sym, ◌∙◌}
+use Rattle.std.proofs.lemmas.Bool.{false≢true}
+use Rattle.definitions.specs.Edit.{cause_of}
+use Rattle.lockstep.proofs.Ends.{held-equal}
 use Rattle.lockstep.proofs.partings.cause.Goals as goal
+use Rattle.lockstep.proofs.partings.cause.Goals.{then-eq, else-eq}
 
-pub returns-in-Same : goal.returns-in-Same
-unfolding cause_of is_held
-returns-in-Same c = cc
+pub returns-in_default : goal.returns-in_default
+unfolding cause_of
+returns-in_default c = cc
 
 pub returns-in-Draw : goal.returns-in-Draw
-unfolding cause_of is_held
+unfolding cause_of
 returns-in-Draw c = cc
 
-pub returns-in-Held : goal.returns-in-Held
-unfolding cause_of is_held
-returns-in-Held c = cc
+pub returns-then-eq-2 : goal.returns-then-eq-2
+unfolding cause_of
+returns-then-eq-2 c =
+    elim c.if-eq.branch [
+      | then-eq k ↦ simp (c.in-Some.is, c.in-Test.is, sym (held-equal _) ∙ sym c.eq.ensures ∙ k.if-eq.true)
+      | else-eq k ↦
+          simp (
+            c.in-Some.is,
+            c.in-Test.is,
+            sym (held-equal _) ∙ sym c.eq.ensures ∙ k.if-eq.false,
+            sym (held-equal _) ∙ sym k.eq-else-eq.ensures ∙ sym k.value-is ∙ c.if-eq-2.true,
+          )
+    ]
 
-pub returns-in-Held-w : goal.returns-in-Held-w
-unfolding cause_of is_held
-returns-in-Held-w c = cc
-
-pub returns-in-Rejected-w : goal.returns-in-Rejected-w
-unfolding cause_of is_held
-returns-in-Rejected-w c = cc
-
-pub returns-in-Passed-w : goal.returns-in-Passed-w
-unfolding cause_of is_held
-returns-in-Passed-w c = cc
-
-pub returns-in-Held-w-2 : goal.returns-in-Held-w-2
-unfolding cause_of is_held
-returns-in-Held-w-2 c = cc
-
-pub returns-in-Rejected-w-2 : goal.returns-in-Rejected-w-2
-unfolding cause_of is_held
-returns-in-Rejected-w-2 c = cc
-
-pub returns-in-Passed-w-2 : goal.returns-in-Passed-w-2
-unfolding cause_of is_held
-returns-in-Passed-w-2 c = cc
+pub returns-else-eq-2 : goal.returns-else-eq-2
+unfolding cause_of
+returns-else-eq-2 c =
+    elim c.if-eq.branch [
+      | then-eq k ↦ absurd (false≢true (sym c.if-eq-2.false ∙ k.value-is ∙ k.if-eq.true))
+      | else-eq k ↦
+          simp (
+            c.in-Some.is,
+            c.in-Test.is,
+            sym (held-equal _) ∙ sym c.eq.ensures ∙ k.if-eq.false,
+            sym (held-equal _) ∙ sym k.eq-else-eq.ensures ∙ sym k.value-is ∙ c.if-eq-2.false,
+          )
+    ]

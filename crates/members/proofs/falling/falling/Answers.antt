@@ -1,46 +1,20 @@
--- `members::falling::falling` meets its contract: the links from k on are left to ask. Assumes nothing.
-use mathlib.Core.Path.{◌≡◌, refl, sym, ◌∙◌}
-use Prim.Native.Nat.{◌<◌}
-use native.Mathlib.Omega.{arith}
-use lib.ListN.{length}
-use borrow.Author.Rules.{rules}
+-- `members::falling::falling` meets its contract: both items of a link are present, so each level is a type plus 1. Assumes nothing.
+use Rattle.std.proofs.Common.{refl}
 use Rattle.definitions.specs.Map.{map_of}
 use Rattle.definitions.specs.Load.{falling}
-use Rattle.laws.specs.Lists.{every-next, every-stop, every-end}
-use Rattle.text.specs.Records.{no_link, shape-links}
-use Rattle.members.specs.Present.{link_falls}
+use Rattle.laws.specs.Lists.{every-at}
+use Rattle.laws.specs.Loadable.{present-is}
+use Rattle.text.specs.Records.{no_link}
+use Rattle.members.specs.Levels.{link-in}
+use Rattle.members.specs.Present.{link_present, link_falls, link-falls}
 use Rattle.members.proofs.falling.falling.Goals as goal
 
-pub loop-k-init : goal.loop-k-init
-loop-k-init c = (search rules, refl)
-
-pub link_falls-requires : goal.link_falls-requires
-link_falls-requires c =
-    let count : c.args.s.links ≡ length (map_of c.args.t.now).links = shape-links c.args.t.now c.args.s c.requires.framed.1 in
-    let at : c.loop-k.k < length (map_of c.args.t.now).links = omega (arith, c.loop-k-test.true, count) in
-    record { framed = c.requires.framed; levels = (c.requires.levels.0, c.requires.levels.1, at) }
-
-pub returns-then-not-link_falls : goal.returns-then-not-link_falls
-unfolding falling
-returns-then-not-link_falls c =
-    let count : c.args.s.links ≡ length (map_of c.args.t.now).links = shape-links c.args.t.now c.args.s c.requires.framed.1 in
-    let at : c.loop-k.k < length (map_of c.args.t.now).links = omega (arith, c.loop-k-test.true, count) in
-    let m = map_of c.args.t.now in
-    sym (every-stop (link_falls m) m.links c.loop-k.k no_link at (sym c.link_falls.ensures ∙ c.if-not-link_falls.true))
-    ∙ c.loop-k.invariant.1
-
-pub loop-k-preserved : goal.loop-k-preserved
-loop-k-preserved c =
-    let count : c.args.s.links ≡ length (map_of c.args.t.now).links = shape-links c.args.t.now c.args.s c.requires.framed.1 in
-    let at : c.loop-k.k < length (map_of c.args.t.now).links = omega (arith, c.loop-k-test.true, count) in
-    let m = map_of c.args.t.now in (
-      search rules,
-      every-next (link_falls m) m.links c.loop-k.k no_link at (sym c.link_falls.ensures ∙ c.if-not-link_falls.false) ∙ c.loop-k.invariant.1,
-    )
+pub every-requires : goal.every-requires
+every-requires c k l = (c.requires.levels.0.size, link-in (map_of c.args.t.now) c.requires.ranged k _ l refl)
 
 pub returns : goal.returns
 unfolding falling
 returns c =
-    let count : c.args.s.links ≡ length (map_of c.args.t.now).links = shape-links c.args.t.now c.args.s c.requires.framed.1 in
     let m = map_of c.args.t.now in
-    sym (every-end (link_falls m) m.links c.loop-k.k (omega (arith, c.loop-k-test.false, count))) ∙ c.loop-k.invariant.1
+    c.every.ensures (link_falls m)
+    (λ k l b q. rw q (link-falls m c.args.levels.now c.requires.levels.0 _ (link-in m c.requires.ranged k _ l refl) (every-at (link_present m) m.links k no_link (present-is m c.requires.levels.1).links l)))

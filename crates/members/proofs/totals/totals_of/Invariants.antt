@@ -1,4 +1,3 @@
-use Prim.Native.Nat.{◌≤◌, ◌-◌}
 use lib.ListN.{take}
 use Rattle.definitions.specs.Map.{map_of}
 use Rattle.members.specs.Totals.{Totalled}
@@ -8,7 +7,4 @@ use Rattle.members.proofs.totals.totals_of.Given as goal
 
 abbrev pub invariant-loop-k : goal.invariant-loop-k
 invariant-loop-k l =
-    (l.k ≤ l.n) × Totalled counted 1 (take l.k (map_of l.t).links) l.counts × Totalled (adds (map_of l.t)) most (take l.k (map_of l.t).links) l.sums
-
-abbrev pub decreases-loop-k : goal.decreases-loop-k
-decreases-loop-k l = l.n - l.k
+    Totalled counted 1 (take l.k (map_of l.t).links) l.counts × Totalled (adds (map_of l.t)) most (take l.k (map_of l.t).links) l.sums

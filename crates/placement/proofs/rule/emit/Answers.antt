@@ -10,8 +10,7 @@ use Rattle.placement.proofs.rule.emit.Goals as goal
 pub returns : goal.returns
 unfolding product_after added_by
 returns c =
-    let s = c in
-    let p = s.args.p in
+    let p = c.args.p in
     let w : length p.working ≡ 16 = search rules in
     let l : length p.list ≡ 32 = search rules in
-    (λ v x. run-emit v x p _ p.len refl (omega (arith, w)) (omega (arith, l)) c.append-longer.ensures, (omega arith, omega arith), record { len = omega arith; emitted = omega arith; tries = omega arith })
+    (λ v x. run-emit v x p _ p.len refl (omega (arith, w, p.len_bound)) (omega (arith, l, p.emitted_bound)) c.append-longer.ensures, record { len = omega arith; emitted = omega arith; tries = omega arith })

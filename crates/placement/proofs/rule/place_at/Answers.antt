@@ -9,11 +9,10 @@ use Rattle.placement.proofs.rule.place_at.Goals as goal
 
 pub overflow_cast-result : goal.overflow_cast-result
 overflow_cast-result c =
-    let s = c in
-    record { fits = each_at Small s.args.list.now s.args.i 0 s.requires c.if-i-list.true }
+    record { fits = each_at Small c.args.list.now c.args.i 0 c.requires c.if-i-list.true }
 
 pub returns-then-i-list : goal.returns-then-i-list
-returns-then-i-list c = let s = c in same_at s.args.list.now s.args.i 0 hole c.if-i-list.true
+returns-then-i-list c = same_at c.args.list.now c.args.i 0 hole c.if-i-list.true
 
 pub returns : goal.returns
-returns c = let s = c in sym (get_or-eq_default s.args.list.now hole c.if-i-list.false)
+returns c = sym (get_or-eq_default c.args.list.now hole c.if-i-list.false)

@@ -5,47 +5,32 @@ use native.Mathlib.Omega.{arith}
 use borrow.Author.Rules.{rules}
 use lib.ListN.{length}
 use lib.Seq.{length-take-le}
-use Rattle.definitions.specs.View.{View}
 use Rattle.hierarchy.specs.Arrays.{view_in}
 use Rattle.blocks.specs.Products.{product_after, added_by}
 use Rattle.placement.specs.Chosen.{bare_in}
 use Rattle.placement.specs.Progress.{run-select}
 use Rattle.placement.proofs.rule.selected.Goals as goal
-use Rattle.placement.proofs.rule.selected.Lts as lts
-use Rattle.placement.proofs.rule.selected.Reads as reads
-use Rattle.placement.proofs.rule.selected.Tie as tie
-
--- what is known at these places of the code
-abbrev Start : Type 0
-Start = lts.Start tie.the-claims reads.Pre reads.Post tie.handed_clauses
-
--- the view that the slices give
-abbrev view : Start → View
-view s =
-    let a = s.args in
-    view_in a.plan.now a.values.now
+use Rattle.placement.proofs.rule.selected.Goals.{Start}
 
 -- what is emitted is within its array
 emitted : (s : Start) → s.args.p.emitted ≤ length s.args.p.list
-emitted s = let w : length s.args.p.list ≡ 32 = search rules in omega (arith, w, s.requires.room.0.1)
+emitted s = let w : length s.args.p.list ≡ 32 = search rules in omega (arith, w, s.args.p.emitted_bound)
 
 pub slice_bounds-list-end : goal.slice_bounds-list-end
-slice_bounds-list-end c = emitted c.before.before
+slice_bounds-list-end c = emitted (goal.at.slice_bounds-list-end c).Start
 
 pub slice_bounds-select-end : goal.slice_bounds-select-end
-slice_bounds-select-end c = sym (length-take-le _ _ (emitted c.before.before.before))
+slice_bounds-select-end c = sym (length-take-le _ _ (emitted (goal.at.slice_bounds-select-end c).Start))
 
 pub select-c-requires : goal.select-c-requires
 select-c-requires c =
-    let s = c in
-    let a = s.args.p in
-    let p = s.requires in
-    record { sound = p.sound; before_len_bound = omega (arith, p.room.0.1, length-take-le a.emitted a.list (emitted s.before.before.before)); le_n = p.room.2 }
+    let a = c.args.p in
+    let p = c.requires in
+    record { flagged = p.flagged; before_len_bound = omega (arith, a.emitted_bound, length-take-le a.emitted a.list (emitted (goal.at.select-c-requires c).Start)); le_n = p.room.1 }
 
 pub returns : goal.returns
 unfolding product_after added_by
 returns c =
-    let s = c in
-    let a = s.args in
+    let a = c.args in
     let k = c.select-c in
-    (run-select (view s.before.before.before.before.before.before.before.before) a.x a.p a.mode a.n a.t (bare_in k.result) k.ensures.result_value.0, (omega (arith, k.ensures.result_value.1, s.requires.room.2.2), omega arith), record { len = k.ensures.result_value.1; emitted = omega arith; tries = omega (arith, k.ensures.result_value.2) })
+    (run-select (view_in a.plan.now a.values.now) a.x a.p a.mode a.n a.t (bare_in k.result) k.ensures.result_value.0, record { len = k.ensures.result_value.1; emitted = omega arith; tries = omega (arith, k.ensures.result_value.2) })

@@ -4,4 +4,4 @@ use Rattle.placement.specs.Progress.{ran-start}
 use Rattle.placement.proofs.rule.start.Goals as goal
 
 pub returns : goal.returns
-returns c = (λ v x actions. ran-start v x actions _ _ _, refl, refl)
+returns c = (λ v x actions. ran-start v x actions _ refl refl refl, refl, refl)

@@ -10,8 +10,7 @@ use Rattle.placement.proofs.rule.take_bucket.Goals as goal
 pub returns : goal.returns
 unfolding product_after added_by
 returns c =
-    let b = c in
-    let a = b.args in
+    let a = c.args in
     let i : length a.p.items ≡ 16 = search rules in
     let w : length a.p.working ≡ 16 = search rules in
-    (λ v x. run_take v x a.p a.b b.bucket-i.result.number (omega (arith, i)) (omega (arith, w)) b.bucket-i.ensures, (omega arith, omega arith), record { len = omega arith; emitted = omega arith; tries = omega arith })
+    (λ v x. run_take v x a.p a.b c.bucket-i.result.number (omega (arith, i)) (omega (arith, w)) c.bucket-i.ensures, record { len = omega arith; emitted = omega arith; tries = omega arith })

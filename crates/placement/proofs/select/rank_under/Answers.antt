@@ -17,7 +17,7 @@ After-bucket_number = lts.After-bucket_number tie.the-claims reads.Pre reads.Pos
 
 -- the bucket's number
 number : (c : After-bucket_number) → c.bucket_number.result ≡ bucket_number c.args.a
-number c = c.bucket_number.ensures ∙ ap bucket_number c.numbered-bucket.ensures
+number c = c.bucket_number.ensures ∙ ap bucket_number c.from-bucket.ensures
 
 pub returns-then-a-eq-HOLE : goal.returns-then-a-eq-HOLE
 unfolding unranked
@@ -25,24 +25,18 @@ returns-then-a-eq-HOLE c = record { value = hole-ranked _ _ _ _ _ _ _ _ _ c.if-a
 
 pub bucket_number-requires : goal.bucket_number-requires
 bucket_number-requires c =
-    let e = c in
-    let s = e in
-    omega (arith, c.numbered-bucket.ensures, (bucket-of s.args.a s.requires.n_bound.3 e.if-a-eq-HOLE.false).0)
+    omega (arith, c.from-bucket.ensures, (bucket-of c.args.a c.requires.n_bound.3 c.if-a-eq-HOLE.false).0)
 
 pub rank-requires : goal.rank-requires
 rank-requires c =
-    let e = c in
-    let s = e in
-    let p = s.requires.n_bound in
-    let b = bucket-of s.args.a p.3 e.if-a-eq-HOLE.false in
-    record { sound = s.requires.sound; search_bounds = ((omega (arith, number c.before, b.1), p.0, omega (arith, p.1), λ q. p.1, p.2), p.4) }
+    let p = c.requires.n_bound in
+    let b = bucket-of c.args.a p.3 c.if-a-eq-HOLE.false in
+    record { flagged = c.requires.flagged; search_bounds = ((omega (arith, number c.before, b.1), p.0, omega (arith, p.1), λ q. p.1, p.2), p.4) }
 
 pub returns : goal.returns
 returns c =
-    let b = c in
-    let e = b in
-    let a = e.args in
+    let a = c.args in
     let v = view_in a.plan.now a.values.now in
     let is = c.rank.ensures.value in
     let q = c.rank.ensures.bounds in
-    record { value = bucket-ranked v _ _ _ _ a.a _ _ _ _ _ (number b.before.before) is e.if-a-eq-HOLE.false; bounds = (q.0, q.1, q.2, bucket-tries v _ _ _ _ a.a _ _ _ _ _ (number b.before.before) is) }
+    record { value = bucket-ranked v _ _ _ _ a.a _ _ _ _ _ (number c.before.before) is c.if-a-eq-HOLE.false; bounds = (q.0, q.1, q.2, bucket-tries v _ _ _ _ a.a _ _ _ _ _ (number c.before.before) is) }

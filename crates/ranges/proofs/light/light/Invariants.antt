@@ -1,4 +1,4 @@
-use Prim.Native.Nat.{ℕ, ◌-◌}
+use Rattle.std.proofs.Common.{ℕ}
 use Rattle.definitions.specs.declared.Device.{Device}
 use Rattle.definitions.specs.Map.{map_of}
 use Rattle.ranges.proofs.Laws.{Summed}
@@ -9,6 +9,3 @@ weight d = d.weight
 
 abbrev pub invariant-loop-k : goal.invariant-loop-k
 invariant-loop-k l = Summed weight (map_of l.t).devices l.k l.total
-
-abbrev pub decreases-loop-k : goal.decreases-loop-k
-decreases-loop-k l = l.s.devices - l.k

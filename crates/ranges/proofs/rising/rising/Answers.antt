@@ -1,16 +1,28 @@
--- `ranges::rising::rising` meets its contract: a no is the question's, and after two yeses the answer is that of the links. Assumes nothing.
-use mathlib.Core.Path.{refl}
-use Rattle.definitions.specs.Load.{rising}
+-- `ranges::rising::rising` meets its contract: each of its three questions is put to every record beside the next. Assumes nothing.
+use Rattle.std.proofs.Common.{rules, refl, ltb}
+use Rattle.definitions.specs.Load.{rising, link_below}
+use Rattle.laws.specs.Chains.{and-yes, and-no}
 use Rattle.ranges.proofs.rising.rising.Goals as goal
+use Rattle.ranges.proofs.rising.rising.Goals.{then-linked, else-linked}
 
-pub returns-then-not-devices : goal.returns-then-not-devices
+pub returns-then-linked-2 : goal.returns-then-linked-2
 unfolding rising
-returns-then-not-devices c = rw (← c.devices.ensures, c.if-not-devices.true) refl
+returns-then-linked-2 c =
+    let devices = c.linked.ensures (λ d e. ltb d.number e.number) (λ k l b q. search rules) in
+    and-yes
+    (elim c.if-linked.branch [
+      | then-linked w ↦ and-yes devices w.if-linked.true w.value-is (w.linked-then-linked.ensures (λ d e. ltb d.number e.number) (λ k l b q. search rules))
+      | else-linked w ↦ and-no _ devices w.if-linked.false w.value-is
+    ])
+    c.if-linked-2.true refl (c.linked-then-linked-2.ensures link_below (λ k l b q. q))
 
-pub returns-then-not-buckets : goal.returns-then-not-buckets
+pub returns-else-linked-2 : goal.returns-else-linked-2
 unfolding rising
-returns-then-not-buckets c = rw (← c.devices.ensures, c.if-not-devices.false, ← c.buckets.ensures, c.if-not-buckets.true) refl
-
-pub returns : goal.returns
-unfolding rising
-returns c = rw (← c.devices.ensures, c.if-not-devices.false, ← c.buckets.ensures, c.if-not-buckets.false) c.links.ensures
+returns-else-linked-2 c =
+    let devices = c.linked.ensures (λ d e. ltb d.number e.number) (λ k l b q. search rules) in
+    and-no _
+    (elim c.if-linked.branch [
+      | then-linked w ↦ and-yes devices w.if-linked.true w.value-is (w.linked-then-linked.ensures (λ d e. ltb d.number e.number) (λ k l b q. search rules))
+      | else-linked w ↦ and-no _ devices w.if-linked.false w.value-is
+    ])
+    c.if-linked-2.false refl

@@ -1,15 +1,16 @@
--- `report::edits::is_edit` meets its contract, case by case. Assumes nothing.
+-- `report::edits::is_edit` meets its contract. Assumes nothing.
+use Rattle.std.specs.Prelude.{◌≡◌, refl, Option, None, Some}
+use Rattle.std.specs.Option.{is_some}
+use Rattle.std.proofs.Common.{◌∙◌}
+use Rattle.definitions.specs.declared.Change.{Change}
 use Rattle.report.specs.Edits.{is_edit}
 use Rattle.report.proofs.edits.is_edit.Goals as goal
 
-pub returns-in-Acceptance : goal.returns-in-Acceptance
+-- what a frame asks for
+some-edit : (c : Option Change) → is_some c ≡ is_edit c
 unfolding is_edit
-returns-in-Acceptance c = rw c.in-Acceptance.is
+some-edit (Some e) = refl
+some-edit None = refl
 
-pub returns-in-Weight : goal.returns-in-Weight
-unfolding is_edit
-returns-in-Weight c = rw c.in-Weight.is
-
-pub returns-in-Malformed : goal.returns-in-Malformed
-unfolding is_edit
-returns-in-Malformed c = rw c.in-Malformed.is
+pub returns : goal.returns
+returns c = c.is_some.ensures ∙ some-edit _

@@ -1,18 +1,12 @@
--- `report::edits::make_return` meets its contract, by return_to's own. Assumes nothing.
-use native.Mathlib.Omega.{arith}
+-- By return_to's own contract. Assumes nothing.
+use Rattle.std.proofs.Common.{arith}
 use Rattle.report.specs.Says.{return-room}
 use Rattle.report.specs.Kept.{answers-edit}
 use Rattle.report.proofs.edits.make_return.Goals as goal
 
-pub tell-requires : goal.tell-requires
-tell-requires c =
-    let e = c in
-    let s = e in
-    let room = return-room s.args.map.now s.args.table.now s.args.states.now s.args.name s.args.space.now _ e.return_to-e.ensures in
-    (omega arith, λ z. let m = room z in omega arith)
-
 pub returns : goal.returns
 returns c =
-    let k = c in
-    let e = k in
-    answers-edit _ _ _ _ _ e.return_to-e.ensures (k.tell.ensures _)
+    let a = c.args in
+    let e = c.return_to-e in
+    answers-edit _ _ _ _ _ e.ensures
+    (c.tell.ensures e.new.table e.new.space (λ z. let m = return-room a.map.now a.table.now a.states.now a.name a.space.now _ e.ensures z in omega (arith, m, e.auto.space)))

@@ -1,34 +1,28 @@
--- `report::edits::on_end` meets its contract: a line of no bytes is none. Assumes nothing.
-use mathlib.Core.Path.{refl}
+-- A line of no bytes is none. Assumes nothing.
+use Rattle.std.proofs.Common.{◌≡◌, length, refl, sym, ◌∙◌, arith, eqb-true, eq-eqb, take_all}
+use Rattle.std.proofs.lemmas.Bool.{false≢true}
 use Rattle.report.specs.Says.{says_none}
-use Rattle.report.specs.Edits.{Site, site_of}
-use Rattle.report.specs.Kept.{keeps-none, keeps-empty, end_none, end-some}
+use Rattle.report.specs.Edits.{site_of}
+use Rattle.report.specs.Kept.{most_kept, keeps-none, keeps-empty, end_none, end-some}
 use Rattle.report.proofs.edits.on_end.Goals as goal
-use Rattle.report.proofs.edits.on_end.Lts as lts
-use Rattle.report.proofs.edits.on_end.Reads as reads
-use Rattle.report.proofs.edits.on_end.Tie as tie
 
--- what is known at these places of the code
-abbrev Start : Type 0
-Start = lts.Start tie.the-claims reads.Pre reads.Post
-
--- what goes on from line to line, as it is lent
-abbrev here : Start → Site
-here s = site_of s.args.map.now s.args.table.now s.args.states.now
-
-pub returns-then-l-eq0 : goal.returns-then-l-eq0
-returns-then-l-eq0 c =
-    let t = c in
-    let s = t in
-    let n = says_none s.args.table.now s.args.space.now in
-    rw c.front.ensures (
-      n.within,
-      λ xs k. rw (end_none s.args.p (here s.before.before.before.before.before.before.before) xs s.args.space.now (keeps-none s.args.l xs k t.if-l-eq0.true))
-          (record { site-is = refl; says = n }),
+pub returns-then-is_empty : goal.returns-then-is_empty
+returns-then-is_empty c =
+    let a = c.args in
+    let here = site_of a.map.now a.table.now a.states.now in
+    let none : length c.bytes-bytes.result.now ≡ 0 = eqb-true _ 0 (sym c.is_empty.ensures ∙ c.if-is_empty.true) in (
+      omega arith,
+      λ xs k. rw (end_none a.p here xs a.space.now (keeps-none _ xs (c.bytes-bytes.ensures.value ∙ k) none))
+          (record { site-is = refl; says = says_none a.table.now a.space.now }),
     )
 
 pub returns : goal.returns
 returns c =
-    let s = c in
-    let a = c.on_line.ensures in
-    (a.0, λ xs k. rw (end-some s.args.p (here s.before.before.before.before.before.before.before.before.before.before.before.before.before.before.before.before.before) xs s.args.space.now (λ e. c.if-l-eq0.false (keeps-empty s.args.l xs k e))) (a.1 xs k))
+    let a = c.args in
+    let l = c.bytes-bytes in
+    let here = site_of a.map.now a.table.now a.states.now in (
+      (c.answer.ensures l.result.now (sym (take_all most_kept l.result.now l.ensures.most))).says.within,
+      λ xs k.
+          let kept = l.ensures.value ∙ k in
+          rw (end-some a.p here xs a.space.now (λ e. false≢true (sym c.if-is_empty.false ∙ c.is_empty.ensures ∙ eq-eqb _ 0 (keeps-empty _ xs kept e)))) (c.answer.ensures xs kept),
+    )

@@ -1,16 +1,10 @@
--- `report::edits::tell` meets its contract: the refusal is written over the space, and moves stand there already. Assumes nothing.
-use mathlib.Core.Path.{ap}
-use Prim.Native.Nat.{ℕ, ◌*◌}
+-- The refusal, or the moves that stand in the space. Assumes nothing.
+use Rattle.std.proofs.Common.{refl}
 use Rattle.report.specs.Says.{or-refused, moves-done}
 use Rattle.report.proofs.edits.tell.Goals as goal
 
 pub returns-then-e-ne0 : goal.returns-then-e-ne0
-returns-then-e-ne0 c =
-    let r = c in
-    λ table. rw (or-refused _ _ r.if-e-ne0.true) (r.refuse.ensures table)
+returns-then-e-ne0 c = λ table space room. rw (or-refused _ _ c.if-e-ne0.true) (record { text-is = refl; within = tt })
 
 pub returns : goal.returns
-returns c =
-    let l = c in
-    let s = l in
-    rw c.front.ensures (λ table. moves-done s.args.e.number s.args.e.moves _ table s.args.space.now l.if-e-ne0.false (ap (λ (k : ℕ). k * 23) c.wide.ensures) (s.requires.1 l.if-e-ne0.false))
+returns c = λ table space room. moves-done c.args.e.number c.args.e.moves _ table space c.if-e-ne0.false refl (room c.if-e-ne0.false)

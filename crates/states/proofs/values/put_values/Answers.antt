@@ -10,7 +10,7 @@ use Rattle.states.specs.Values.{values-none, partly-length, weighed-length, valu
 use Rattle.states.proofs.values.put_values.Goals as goal
 
 pub loop-i-init : goal.loop-i-init
-loop-i-init c = (omega arith, refl, values-none c.args.t.now (drives_in c.args.n (drop c.args.a c.args.s.now)) c.requires.framed.0)
+loop-i-init c = (refl, values-none c.args.t.now (drives_in c.args.n (drop c.args.a c.args.s.now)) c.requires.framed.0)
 
 pub put_weight-requires : goal.put_weight-requires
 put_weight-requires c =
@@ -18,8 +18,8 @@ put_weight-requires c =
     let given = drives_in c.args.n (drop c.args.a c.args.s.now) in
     let as_many : length given ≡ length m.devices = given-length c.args.t.now c.args.s.now c.args.n c.args.a c.requires.s_value in
     let at : c.loop-i.i < length m.devices = omega (arith, c.loop-i-test.true, c.requires.framed.1) in
-    let here : c.loop-i.i < length (map_of c.loop-i.t).devices = omega (arith, at, partly-length m given as_many c.loop-i.i (omega (arith, at)), ap (λ (n : Map). length n.devices) c.loop-i.invariant.2.holds) in
-    (c.loop-i.invariant.2.framed, here)
+    let here : c.loop-i.i < length (map_of c.loop-i.t).devices = omega (arith, at, partly-length m given as_many c.loop-i.i (omega (arith, at)), ap (λ (n : Map). length n.devices) c.loop-i.invariant.1.holds) in
+    (c.loop-i.invariant.1.framed, here)
 
 pub put_acceptance-requires : goal.put_acceptance-requires
 put_acceptance-requires c =
@@ -27,7 +27,7 @@ put_acceptance-requires c =
     let given = drives_in c.args.n (drop c.args.a c.args.s.now) in
     let as_many : length given ≡ length m.devices = given-length c.args.t.now c.args.s.now c.args.n c.args.a c.requires.s_value in
     let at : c.loop-i.i < length m.devices = omega (arith, c.loop-i-test.true, c.requires.framed.1) in
-    let here : c.loop-i.i < length (map_of c.loop-i.t).devices = omega (arith, at, partly-length m given as_many c.loop-i.i (omega (arith, at)), ap (λ (n : Map). length n.devices) c.loop-i.invariant.2.holds) in
+    let here : c.loop-i.i < length (map_of c.loop-i.t).devices = omega (arith, at, partly-length m given as_many c.loop-i.i (omega (arith, at)), ap (λ (n : Map). length n.devices) c.loop-i.invariant.1.holds) in
     let F = c.put_weight.ensures in
     (F.framed, omega (arith, here, weighed-length c.loop-i.t _ c.loop-i.i _ F))
 
@@ -37,18 +37,17 @@ loop-i-preserved c =
     let given = drives_in c.args.n (drop c.args.a c.args.s.now) in
     let as_many : length given ≡ length m.devices = given-length c.args.t.now c.args.s.now c.args.n c.args.a c.requires.s_value in
     let at : c.loop-i.i < length m.devices = omega (arith, c.loop-i-test.true, c.requires.framed.1) in (
-      omega (arith, c.loop-i-test.true),
       search rules,
-      values-more m given as_many c.loop-i.i at c.loop-i.t _ _ _ _ c.loop-i.invariant.2 c.put_weight.ensures c.put_acceptance.ensures
+      values-more m given as_many c.loop-i.i at c.loop-i.t _ _ _ _ c.loop-i.invariant.1 c.put_weight.ensures c.put_acceptance.ensures
           (given-at c.args.t.now c.args.s.now c.args.n c.args.a c.requires.s_value c.loop-i.i c.loop-i-test.true),
     )
 
 pub shape_of-t : goal.shape_of-t
-shape_of-t c = c.loop-i.invariant.1
+shape_of-t c = c.loop-i.invariant.0
 
 pub returns : goal.returns
 returns c =
     let m = map_of c.args.t.now in
     let given = drives_in c.args.n (drop c.args.a c.args.s.now) in
     let as_many : length given ≡ length m.devices = given-length c.args.t.now c.args.s.now c.args.n c.args.a c.requires.s_value in
-    values-all m given as_many c.loop-i.i c.loop-i.t (omega (arith, c.loop-i.invariant.0, c.loop-i-test.false, c.requires.framed.1)) c.loop-i.invariant.2
+    values-all m given as_many c.loop-i.i c.loop-i.t (omega (arith, c.loop-i-test.false, c.requires.framed.1)) c.loop-i.invariant.1

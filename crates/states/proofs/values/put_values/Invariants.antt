@@ -1,5 +1,4 @@
 use mathlib.Core.Path.{◌≡◌}
-use Prim.Native.Nat.{◌-◌, ◌≤◌}
 use lib.ListN.{length, drop}
 use Rattle.definitions.specs.Map.{map_of}
 use Rattle.definitions.specs.States.{drives_in}
@@ -8,7 +7,4 @@ use Rattle.states.specs.Values.{partly}
 use Rattle.states.proofs.values.put_values.Given as goal
 
 abbrev pub invariant-loop-i : goal.invariant-loop-i
-invariant-loop-i l = (l.i ≤ l.n) × (length l.t ≡ length l.initial.t) × Edited l.t (partly (map_of l.initial.t) (drives_in l.n (drop l.a l.s)) l.i)
-
-abbrev pub decreases-loop-i : goal.decreases-loop-i
-decreases-loop-i l = l.n - l.i
+invariant-loop-i l = (length l.t ≡ length l.initial.t) × Edited l.t (partly (map_of l.initial.t) (drives_in l.n (drop l.a l.s)) l.i)

@@ -8,7 +8,7 @@ use Rattle.states.specs.Words.{slot_at, good-next, state-stop, again-stop, good-
 use Rattle.states.proofs.words.good_states.Goals as goal
 
 pub loop-k-init : goal.loop-k-init
-loop-k-init c = (omega arith, refl)
+loop-k-init c = refl
 
 pub overflow_mul-a : goal.overflow_mul-a
 overflow_mul-a c =
@@ -44,14 +44,8 @@ pub returns-then-not-state_fits : goal.returns-then-not-state_fits
 returns-then-not-state_fits c =
     let drives = length c.args.own.now in
     let a = c.args in
-    sym (sym c.loop-k.invariant.1
+    sym (sym c.loop-k.invariant
     ∙ state-stop a.own.now a.s.now drives a.c c.loop-k.k c.loop-k-test.true (sym c.state_fits.ensures ∙ c.if-not-state_fits.true))
-
-pub overflow_add-k : goal.overflow_add-k
-overflow_add-k c =
-    let drives = length c.args.own.now in
-    let inside : slot_at drives c.loop-k.k + (1 + 3 * drives) ≤ length c.args.s.now = omega (arith, c.requires.0, mul-le-mul_right (1 + 3 * drives) c.loop-k-test.true) in
-    omega (arith, inside, c.requires.1)
 
 pub offset_bounds-s-a : goal.offset_bounds-s-a
 offset_bounds-s-a c =
@@ -74,31 +68,20 @@ pub returns-then-later-c : goal.returns-then-later-c
 returns-then-later-c c =
     let drives = length c.args.own.now in
     let a = c.args in
-    sym (sym c.loop-k.invariant.1
+    sym (sym c.loop-k.invariant
     ∙ again-stop a.own.now a.s.now drives a.c c.loop-k.k c.loop-k-test.true
     (later-yes a.s.now drives a.c c.loop-k.k (get_or a.s.now (slot_at drives c.loop-k.k) 0) _ c.place_from-later.ensures c.if-later-c.true))
-
-pub overflow_add-k-in-loop-k : goal.overflow_add-k-in-loop-k
-overflow_add-k-in-loop-k c =
-    let drives = length c.args.own.now in
-    let inside : slot_at drives c.loop-k.k + (1 + 3 * drives) ≤ length c.args.s.now = omega (arith, c.requires.0, mul-le-mul_right (1 + 3 * drives) c.loop-k-test.true) in
-    omega (arith, inside, c.requires.1)
-
-pub loop-k-smaller : goal.loop-k-smaller
-loop-k-smaller c = omega (arith, c.loop-k-test.true)
 
 pub loop-k-preserved : goal.loop-k-preserved
 loop-k-preserved c =
     let drives = length c.args.own.now in
-    let a = c.args in (
-      omega (arith, c.loop-k-test.true),
-      good-next a.own.now a.s.now drives a.c c.loop-k.k c.loop-k-test.true (sym c.state_fits.ensures ∙ c.if-not-state_fits.false)
-          (later-no a.s.now drives a.c c.loop-k.k (get_or a.s.now (slot_at drives c.loop-k.k) 0) _ c.place_from-later.ensures c.if-later-c.false)
-          ∙ c.loop-k.invariant.1,
-    )
+    let a = c.args in
+    good-next a.own.now a.s.now drives a.c c.loop-k.k c.loop-k-test.true (sym c.state_fits.ensures ∙ c.if-not-state_fits.false)
+    (later-no a.s.now drives a.c c.loop-k.k (get_or a.s.now (slot_at drives c.loop-k.k) 0) _ c.place_from-later.ensures c.if-later-c.false)
+    ∙ c.loop-k.invariant
 
 pub returns : goal.returns
 returns c =
     let drives = length c.args.own.now in
     let a = c.args in
-    sym (sym c.loop-k.invariant.1 ∙ good-end a.own.now a.s.now drives a.c c.loop-k.k c.loop-k-test.false)
+    sym (sym c.loop-k.invariant ∙ good-end a.own.now a.s.now drives a.c c.loop-k.k c.loop-k-test.false)

@@ -15,41 +15,41 @@ use Rattle.states.specs.Words.{good_states, numbers-ranged, stated-many, stated-
 use Rattle.states.proofs.words.states_good.Goals as goal
 
 pub returns-then-c-gt8 : goal.returns-then-c-gt8
-returns-then-c-gt8 c = let a = c.args in sym (stated-many (map_of a.t.now) a.states.now c.if-c-gt8.true)
+returns-then-c-gt8 c = let a = c.args in sym (stated-many (map_of a.text.now) a.states.now c.if-c-gt8.true)
 
 pub returns-then-c-eq0 : goal.returns-then-c-eq0
-returns-then-c-eq0 c = let a = c.args in sym (stated-none (map_of a.t.now) a.states.now c.if-c-eq0.true)
+returns-then-c-eq0 c = let a = c.args in sym (stated-none (map_of a.text.now) a.states.now c.if-c-eq0.true)
 
 pub returns-then-states-n : goal.returns-then-states-n
-returns-then-states-n c = sym (stated-other (map_of c.args.t.now) c.args.states.now (omega (arith, c.if-c-eq0.false)) (λ e. c.if-states-n.true (e ∙ sym c.requires.framed.1)))
+returns-then-states-n c = sym (stated-other (map_of c.args.text.now) c.args.states.now (omega (arith, c.if-c-eq0.false)) (λ e. c.if-states-n.true (e ∙ sym c.count-n.ensures)))
 
 pub slice_bounds-good_states-end : goal.slice_bounds-good_states-end
 slice_bounds-good_states-end c =
-    let numbers = numbers_of (map_of c.args.t.now).devices in
-    let count : c.args.n ≡ length numbers = c.requires.framed.1 ∙ sym (length-map (map_of c.args.t.now).devices (λ (d : Device). d.number)) in
-    let taken : take c.args.n c.numbers_of-own.result ≡ numbers = c.numbers_of-own.ensures in
+    let numbers = numbers_of (map_of c.args.text.now).devices in
+    let count : c.count-n.result ≡ length numbers = c.count-n.ensures ∙ sym (length-map (map_of c.args.text.now).devices (λ (d : Device). d.number)) in
+    let taken : take c.count-n.result c.numbers_of-own.result ≡ numbers = rw c.count-n.ensures c.numbers_of-own.ensures in
     count ∙ ap length (sym taken)
 
 pub good_states-requires : goal.good_states-requires
 good_states-requires c =
-    let numbers = numbers_of (map_of c.args.t.now).devices in
-    let count : c.args.n ≡ length numbers = c.requires.framed.1 ∙ sym (length-map (map_of c.args.t.now).devices (λ (d : Device). d.number)) in
-    let taken : take c.args.n c.numbers_of-own.result ≡ numbers = c.numbers_of-own.ensures in
+    let numbers = numbers_of (map_of c.args.text.now).devices in
+    let count : c.count-n.result ≡ length numbers = c.count-n.ensures ∙ sym (length-map (map_of c.args.text.now).devices (λ (d : Device). d.number)) in
+    let taken : take c.count-n.result c.numbers_of-own.result ≡ numbers = rw c.count-n.ensures c.numbers_of-own.ensures in
     let w : length c.args.states.now ≡ 24586 = search rules in
-    let e : length (take c.args.n c.numbers_of-own.result) ≡ c.args.n = ap length taken ∙ sym count in
-    let r = numbers-ranged (map_of c.args.t.now).devices c.requires.t_value in (
-      omega (arith, w, e, mul-le-mul_right (1 + 3 * length (take c.args.n c.numbers_of-own.result)) c.if-c-gt8.false, c.requires.framed.2),
+    let e : length (take c.count-n.result c.numbers_of-own.result) ≡ c.count-n.result = ap length taken ∙ sym count in
+    let r = numbers-ranged (map_of c.args.text.now).devices c.requires.ranged in (
+      omega (arith, w, e, mul-le-mul_right (1 + 3 * length (take c.count-n.result c.numbers_of-own.result)) c.if-c-gt8.false, c.requires.few),
       omega (arith, w),
       ap (every (λ (x : ℕ). leb x 1023)) taken ∙ r,
     )
 
 pub returns : goal.returns
 returns c =
-    let numbers = numbers_of (map_of c.args.t.now).devices in
-    let count : c.args.n ≡ length numbers = c.requires.framed.1 ∙ sym (length-map (map_of c.args.t.now).devices (λ (d : Device). d.number)) in
-    let taken : take c.args.n c.numbers_of-own.result ≡ numbers = c.numbers_of-own.ensures in
+    let numbers = numbers_of (map_of c.args.text.now).devices in
+    let count : c.count-n.result ≡ length numbers = c.count-n.ensures ∙ sym (length-map (map_of c.args.text.now).devices (λ (d : Device). d.number)) in
+    let taken : take c.count-n.result c.numbers_of-own.result ≡ numbers = rw c.count-n.ensures c.numbers_of-own.ensures in
     let ws = c.args.states.now in
     c.good_states.ensures
     ∙ ap (λ (ns : List ℕ). good_states ns (states_in (length ns) (get_or ws 0 0) (drop 2 ws))) taken
-    ∙ stated-good (map_of c.args.t.now) ws (length numbers) (omega (arith, c.if-c-eq0.false)) c.if-c-gt8.false (c.if-states-n.false ∙ count)
-    (sym count ∙ c.requires.framed.1)
+    ∙ stated-good (map_of c.args.text.now) ws (length numbers) (omega (arith, c.if-c-eq0.false)) c.if-c-gt8.false (c.if-states-n.false ∙ count)
+    (sym count ∙ c.count-n.ensures)

@@ -3,8 +3,6 @@ use mathlib.Core.Path.{◌≡◌}
 use Prim.Native.Nat.{ℕ, ◌+◌, ◌-◌, ◌*◌, ◌/◌, ◌%◌, ◌^◌, ◌≤◌}
 use native.Mathlib.Nat.{mul-le-mul_left, div-mul-le_self}
 use native.Mathlib.Omega.{arith}
-use borrow.Author.Rules.{rules}
-use Rattle.definitions.specs.Straw.{cost}
 use Rattle.laws.specs.Sparing.{cost-most}
 use Rattle.straw.proofs.guard.reach.Goals as goal
 use Rattle.straw.proofs.guard.reach.Lts as lts
@@ -12,27 +10,27 @@ use Rattle.straw.proofs.guard.reach.Reads as reads
 use Rattle.straw.proofs.guard.reach.Tie as tie
 
 -- what is known at these places of the code
-abbrev After-wide2 : Type 0
-After-wide2 = lts.After-wide2 tie.the-claims reads.Pre reads.Post
+abbrev After-from2 : Type 0
+After-from2 = lts.After-from2 tie.the-claims reads.Pre reads.Post
 
 -- what the hash is below 2 ^ 32, and the quotient
-abbrev below : After-wide2 → ℕ
+abbrev below : After-from2 → ℕ
 below c = 2 ^ 32 - 1 - c.args.h
 
-abbrev quotient : After-wide2 → ℕ
+abbrev quotient : After-from2 → ℕ
 quotient c = 2 ^ 32 * below c / (c.args.h + 1)
 
-small : (c : After-wide2) → quotient c ≤ 4000000000
+small : (c : After-from2) → quotient c ≤ 4000000000
 small c =
     let u = c.args.h + 1 in
     let h : 2294967296 ≤ u = omega (arith, c.requires) in
     omega (arith, div-mul-le_self (2 ^ 32 * below c) u, mul-le-mul_left (quotient c) h)
 
 -- the code's quotient is it
-is : (c : After-wide2) → c.wide-t.result * 4294967296 % 18446744073709551616 / (c.wide-u.result + 1) ≡ quotient c
+is : (c : After-from2) → c.from-t.result * 4294967296 % 18446744073709551616 / (c.from-u.result + 1) ≡ quotient c
 is c =
-    let e : c.wide-t.result * 4294967296 % 18446744073709551616 ≡ 2 ^ 32 * below c = omega (arith, c.wide-t.ensures) in
-    rw (e, c.wide-u.ensures)
+    let e : c.from-t.result * 4294967296 % 18446744073709551616 ≡ 2 ^ 32 * below c = omega (arith, c.from-t.ensures) in
+    rw (e, c.from-u.ensures)
 
 pub overflow_add-c : goal.overflow_add-c
 overflow_add-c c = record { fits = omega (arith, is c, small c) }

@@ -1,7 +1,6 @@
 -- `straw::logarithm::next_digit` meets its contract, by the law that the digit is what the square has above 32 bits. Assumes nothing.
 use mathlib.Core.Path.{refl}
 use native.Mathlib.Omega.{arith}
-use borrow.Author.Rules.{rules}
 use Rattle.laws.specs.Logarithm.{product_lt, digit_shift}
 use Rattle.straw.proofs.logarithm.next_digit.Goals as goal
 

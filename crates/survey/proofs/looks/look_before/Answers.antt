@@ -4,5 +4,6 @@ use Rattle.survey.proofs.looks.look_before.Goals as goal
 
 pub returns : goal.returns
 returns c =
-    looked-before _ _ c.args.w c.args.x c.args.d c.args.row.now c.holds.result c.stands.result c.unmoved.result
-    c.stands.ensures c.holds.ensures c.if-holds-ne0.false c.requires.within c.unmoved.ensures
+    let a = c.args in
+    rw c.then_some.ensures
+    (looked-before _ _ a.w a.x a.d a.row.now c.holds.result c.stands.result c.stands.ensures c.holds.ensures c.if-holds.false c.requires.within)

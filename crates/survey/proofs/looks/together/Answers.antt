@@ -1,32 +1,20 @@
 -- `survey::looks::together` meets its contract. Assumes nothing.
-use mathlib.Core.Path.{sym}
-use mathlib.Core.List.{List}
-use Prim.Native.Nat.{ℕ}
-use native.Mathlib.Omega.{arith}
-use borrow.Author.Rules.{rules}
-use lib.ListN.{replicate}
-use lib.Seq.{length-take-le}
+use Rattle.std.specs.Prelude.{◌≡◌, refl, Bool, true, false, List, ℕ, IfSome}
+use Rattle.std.specs.Bool.{then_some}
+use Rattle.std.proofs.Common.{rules, replicate}
 use Rattle.survey.specs.Places.{row-taken}
 use Rattle.survey.proofs.looks.together.Goals as goal
 
--- the array as it is made
-abbrev zeros : List ℕ
-zeros = replicate 32 0
-
-pub slice_bounds-place_both-end : goal.slice_bounds-place_both-end
-slice_bounds-place_both-end c = sym (length-take-le c.args.w zeros c.requires.0.3)
-
-pub place_both-one-requires : goal.place_both-one-requires
-place_both-one-requires c =
-    record {
-      len_bound = (c.requires.0.0, c.requires.0.1, c.requires.1.1.flagged);
-      len_in_bounds = omega (arith, c.requires.0.2, length-take-le c.args.w zeros c.requires.0.3);
-    }
+some_of : (P : List ℕ → Type 0) (b : Bool) (row : List ℕ) → (b ≡ true → P row) → IfSome (then_some b row) P
+some_of P true row f = f refl
+some_of P false row f = tt
 
 pub returns : goal.returns
-returns c e =
+returns c =
     let a = c.args in
-    let (o, n) = c.place_both-one.ensures e in (
-      row-taken a.plan.now a.old.now a.rule a.w a.x _ zeros c.requires.0.3 (search rules) o,
-      row-taken a.plan.now a.new.now a.rule a.w a.x _ zeros c.requires.0.3 (search rules) n,
-    )
+    rw c.then_some.ensures
+    (some_of _ c.place_both.result _ (λ e.
+    let (o, n) = c.place_both.ensures e in (
+      row-taken a.plan.now a.old.now a.rule a.w a.x _ (replicate 32 0) c.requires.0.3 (search rules) o,
+      row-taken a.plan.now a.new.now a.rule a.w a.x _ (replicate 32 0) c.requires.0.3 (search rules) n,
+    )))

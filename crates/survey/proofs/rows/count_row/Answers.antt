@@ -1,38 +1,17 @@
--- `survey::rows::count_row` meets its contract. The invariant: how many of the first i places differ. Assumes nothing.
-use mathlib.Core.Path.{◌≡◌, ap, ◌∙◌}
-use Prim.Native.Nat.{◌+◌}
-use native.Mathlib.Omega.{arith}
-use borrow.Author.Rules.{rules}
-use lib.ListN.{length}
-use Rattle.survey.specs.Rows.{differ_to, differ-none, differ-more, differ-small}
+-- `survey::rows::count_row` meets its contract. Assumes nothing.
+use Rattle.std.specs.Prelude.{◌≡◌, ℕ, not, eqb, length}
+use Rattle.std.proofs.Common.{◌∙◌, arith, rules}
+use Rattle.std.proofs.lemmas.Iterator.{YieldsList-from_slice, YieldsList-from_zip}
+use Rattle.std.proofs.lemmas.Iterator.Consumers.{YieldsList-from_filter, count_from_yields_List}
+use borrow.Author.Tests.{tests}
+use Rattle.survey.specs.Rows.{differ_to, differ-counted, differ-small}
 use Rattle.survey.proofs.rows.count_row.Goals as goal
-use Rattle.survey.proofs.rows.count_row.Lts as lts
-use Rattle.survey.proofs.rows.count_row.Reads as reads
-use Rattle.survey.proofs.rows.count_row.Tie as tie
-
--- what is known at these places of the code
-abbrev After-differs : Type 0
-After-differs = lts.After-differs tie.the-claims reads.Pre reads.Post goal.the-invariant-loop-i goal.the-decreases-loop-i
-
--- one place more is counted
-more : (c : After-differs) → c.loop-i.r + c.differs-r.result ≡ differ_to c.args.old.now c.args.new.now (c.loop-i.i + 1)
-more c =
-    let l = c.loop-i in
-    differ-more c.args.old.now c.args.new.now l.i l.r c.differs-r.result l.invariant.1 c.differs-r.ensures
-
-pub loop-i-init : goal.loop-i-init
-loop-i-init c = (omega arith, differ-none _ _)
-
-pub overflow_add-r : goal.overflow_add-r
-overflow_add-r c =
-    let l = c.loop-i in
-    omega (arith, more c.before, differ-small c.args.old.now c.args.new.now (l.i + 1), l.invariant.0, c.requires.1)
-
-pub loop-i-preserved : goal.loop-i-preserved
-loop-i-preserved c = (search rules, more c.before)
 
 pub returns : goal.returns
 returns c =
-    let l = c.loop-i in
-    let e : l.i ≡ length c.args.old.now = omega arith in
-    (l.invariant.1 ∙ ap (differ_to c.args.old.now c.args.new.now) e, omega (arith, l.invariant.1, differ-small c.args.old.now c.args.new.now l.i, c.requires.1))
+    let a = c.args in
+    let pairs = YieldsList-from_zip (YieldsList-from_slice a.old.now cc) (YieldsList-from_slice a.new.now cc) in
+    let r : c.count.result ≡ differ_to a.old.now a.new.now (length a.old.now) =
+    count_from_yields_List _ _ c.count.ensures.ran (YieldsList-from_filter _ (λ (p : ℕ × ℕ). not (eqb p.0 p.1)) pairs c.filter.ensures.closure (λ x b q k. search (rules, tests)))
+    ∙ differ-counted a.old.now a.new.now c.requires.0 in
+    (r, omega (arith, r, differ-small a.old.now a.new.now (length a.old.now), c.requires.1))

@@ -1,12 +1,7 @@
-use Prim.Native.Nat.{◌-◌, ◌≤◌}
 use Rattle.survey.specs.Places.{places_at}
 use Rattle.survey.specs.Surveyed.{Sofar}
 use Rattle.survey.proofs.surveys.survey_within.Given as goal
 
 abbrev pub invariant-loop-g : goal.invariant-loop-g
 invariant-loop-g l =
-    (l.g ≤ l.groups)
-    × Sofar l.w (places_at l.plan l.old l.rule l.w) (places_at l.plan l.new l.rule l.w) l.g l.table l.moves l.changed
-
-abbrev pub decreases-loop-g : goal.decreases-loop-g
-decreases-loop-g l = l.groups - l.g
+    Sofar l.w (places_at l.plan l.old l.rule l.w) (places_at l.plan l.new l.rule l.w) l.g l.table l.moves l.changed
