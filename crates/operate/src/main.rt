@@ -7,8 +7,8 @@ ghost use Rattle.std.specs.Prelude.{◌≡◌, length};
 
 use protocol::asked::Program;
 
-// The largest table that there is, 65,536 groups of 32 places: 4 MiB. It stands in a function: with the table in
-// place a check of `main` had not ended after four minutes (measured).
+// The largest table that there is, 65,536 groups of 32 places: 4 MiB. It stands in a function: with the table in place the prover goes through its
+// places in the proof of `main`, and stops at its depth.
 fn table_space() -> [u16; 2097152]
     ensures { 2097152 ≡ length result }
 {
