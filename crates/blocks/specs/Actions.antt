@@ -62,6 +62,10 @@ module _ (s : Step) where
         eq-eqb s.step 5 e,
       )
 
+  pub action-idle : (s.step ≡ 1 → ⊥) → (s.step ≡ 2 → ⊥) → (s.step ≡ 3 → ⊥) → (s.step ≡ 4 → ⊥) → (s.step ≡ 5 → ⊥) → action_of s ≡ Idle
+  unfolding action_of
+  action-idle a b c d e = rw (ne_eqb s.step 1 a, ne_eqb s.step 2 b, ne_eqb s.step 3 c, ne_eqb s.step 4 d, ne_eqb s.step 5 e)
+
   -- in range, by the three forms of a step
   take-ranged : take_ranged s ≡ true → ActionRanged (action_of s)
   unfolding take_ranged

@@ -4,6 +4,8 @@ use Rattle.std.specs.Prelude.{◌≡◌, List, Result, Ok, Err, IfOk}
 use Rattle.std.proofs.Math.Path.{refl, ap}
 use Prim.Native.Nat.{ℕ, zero, suc, ◌+◌, ◌≤◌}
 use native.Mathlib.Omega.{arith}
+use Rattle.definitions.specs.declared.Action.{Action}
+use Rattle.definitions.specs.declared.Action.TheVariants.{Take, Select, Emit, Idle}
 use Rattle.definitions.specs.declared.Mode.{Mode}
 use Rattle.definitions.specs.declared.State.{State}
 use Rattle.definitions.specs.declared.Turn.{Turn}
@@ -15,8 +17,10 @@ use Rattle.definitions.specs.Walk.{hole, Trial, RankEvents, rank_start, rank_end
 use Rattle.laws.specs.Fuel.{turn-fails}
 use Rattle.laws.specs.Tries.{rank-inner}
 use Rattle.walk.specs.declared.Wanted.{Wanted}
-use Rattle.placement.specs.Bare.{unranked, ranked_under}
+use Rattle.placement.specs.declared.progress.Progress.{Progress}
+use Rattle.placement.specs.Bare.{unranked, ranked_under, bare_act}
 use Rattle.placement.specs.Chosen.{UnderBounds, hole-ranked, hole-bounds, bucket-ranked, bucket-tries}
+use Rattle.placement.specs.Progress.{Acted}
 use Rattle.lockstep.specs.Rounds.{rank-failures}
 use Rattle.causes.specs.Ends.{RankEnds}
 
@@ -66,3 +70,19 @@ module _ (v w : View) (x : ℕ) (s : Wanted) (a r : ℕ) (held : List ℕ) (f : 
       bucket-tries v x s.mode s.n s.t a r held f b k e i,
     ),
   )
+
+-- ---- a step of both
+
+-- what is no select leads any run to the same
+abbrev pub Steady : Action → Type 0
+Steady (Take b) = Unit {0}
+Steady (Select mode n t) = ⊥
+Steady Emit = Unit {0}
+Steady Idle = Unit {0}
+
+pub steady : (v w : View) (x : ℕ) (p q : Progress) (a : Action) → Steady a → Acted v x p a q → Acted w x p a q
+unfolding bare_act
+steady v w x p q (Take b) s h = h
+steady v w x p q (Select mode n t) s h = absurd s
+steady v w x p q Emit s h = h
+steady v w x p q Idle s h = h

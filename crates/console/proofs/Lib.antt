@@ -1,3 +1,4 @@
 -- What several proofs share.
 pub mod Outcomes
 pub mod Rest
+pub mod Row

@@ -6,11 +6,12 @@
 mod system;
 
 ghost use Rattle.std.specs.Prelude.{◌≡◌, List, ◌++◌, ℕ, ◌+◌, ◌*◌, ◌≤◌, length, take, IfOk, OnOk, OnErr};
-ghost use Rattle.std.specs.Io.KnownBytes.{Consumes};
+ghost use Rattle.std.specs.Io.KnownBytes.{Appends, Consumes};
+ghost use Rattle.protocol.specs.Lines.{row_line, refusal_line, row_lines};
 ghost use Rattle.report.specs.Edits.{site_of, states_at_start, session, bytes_of};
 ghost use Rattle.report.specs.Kept.{Keeps};
 ghost use Rattle.report.specs.Reads.{Led, Ended};
-ghost use Rattle.report.specs.Says.{Within};
+ghost use Rattle.report.specs.Says.{shown, Within};
 ghost use Rattle.console.specs.declared.Gathered.{Gathered};
 ghost use Rattle.console.specs.Gathering.{Gathers};
 ghost use Rattle.console.specs.Leaving.{Came, Left};
@@ -32,7 +33,9 @@ struct Gathered {
     read: usize,
 }
 
-fn print_refusal<W: Write>(stdout: &mut W, number: u32) -> Result<(), Failure> {
+fn print_refusal<W: Write>(stdout: &mut W, number: u32) -> Result<(), Failure>
+    ensures { OnOk result (Appends (W.contents stdout.old) (W.contents stdout.new) (refusal_line number)) }
+{
     let mut line = [0u8; 5];
     protocol::printed::refusal_line(number, &mut line);
     system::print(stdout, &line)
@@ -46,6 +49,7 @@ fn print_row<W: Write>(
     line: &mut [u8],
 ) -> Result<(), Failure>
     requires { (length line.old ≡ 11 + 4 * length row.now) × (length row.now ≤ 32) }
+    ensures { OnOk result (Appends (W.contents stdout.old) (W.contents stdout.new) (row_line group row.now)) }
 {
     protocol::printed::row_line(group, row, line);
     system::print(stdout, line)
@@ -60,6 +64,7 @@ fn print_by_line<W: Write>(
     line: &mut [u8],
 ) -> Result<(), Failure>
     requires { (w ≤ 32) × (groups * w ≤ length table.now) × (length line.old ≡ 11 + 4 * w) }
+    ensures { OnOk result (Appends (W.contents stdout.old) (W.contents stdout.new) (row_lines groups 0 w table.now)) }
 {
     for g in 0..groups {
         let a = g as usize * w;
@@ -77,6 +82,7 @@ const MOVES: usize = 65536;
 // Prints the rows of the groups below `groups`, each w places wide. A row's line has 11 bytes, and 4 for each of at most 32 places.
 fn print_rows<W: Write>(stdout: &mut W, table: &[u16], groups: u32, w: usize) -> Result<(), Failure>
     requires { (w ≤ 32) × (groups * w ≤ length table.now) }
+    ensures { OnOk result (Appends (W.contents stdout.old) (W.contents stdout.new) (row_lines groups 0 w table.now)) }
 {
     let mut line = [0u8; 139];
     print_by_line(stdout, table, groups, w, &mut line[..11 + 4 * w])
@@ -124,6 +130,7 @@ fn gather_some<R: Read>(stdin: &mut R, space: &mut [u8], g: Gathered) -> Result<
 
 // Reads until the map is whole, the input ends or the space is full. An error leaves what was gathered.
 fn gather<R: Read>(stdin: &mut R, space: &mut [u8]) -> Result<Gathered, Failure>
+    requires { length space.old ≡ 65537 }
     ensures ok { IfOk result (λ r. Gathers r space.new) }
     ensures err { OnErr result ((r : Gathered) × Gathers r space.new) }
 {
@@ -150,6 +157,7 @@ fn print_said<W: Write>(
     space: &[u8],
 ) -> Result<(), Failure>
     requires { Within said table.now space.now }
+    ensures { OnOk result (Appends (W.contents stdout.old) (W.contents stdout.new) (shown said table.now space.now)) }
 {
     match said {
         Said::Refused(number) => print_refusal(stdout, number),
@@ -224,7 +232,7 @@ fn take_lines<R: Read, W: Write>(
     n: usize,
     space: &mut [u8],
 ) -> Result<(), Failure>
-    requires { n ≤ length buffer.old }
+    requires { (n ≤ length buffer.old) × (length buffer.old ≡ 65537) × (length space.old ≡ 65536) }
     ensures ended { OnOk result ((bs : List ℕ) × Consumes (R.remaining stdin.old) (R.remaining stdin.new) bs
         × Ended p space.old (site_of map.old table.old states.old) (take n buffer.old ++ bs) (site_of map.new table.new states.new)) }
     ensures err { OnErr result (Left p space.old (site_of map.old table.old states.old) (site_of map.new table.new states.new)) }

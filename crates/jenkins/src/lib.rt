@@ -1,8 +1,9 @@
 // Document 01, "Hash": Jenkins' mix, and the hashes of two and of three numbers; change 4: of four.
 #![tactic(auto)]
 
-ghost use Rattle.std.specs.Prelude.{◌≡◌, ◌<◌};
-ghost use Rattle.definitions.specs.Hash.{places, shifted_by, mix_step, mix, hash2, hash3, hash4};
+ghost use Rattle.std.specs.Prelude.{◌≡◌, ◌<◌, slice_index_or};
+ghost use Rattle.definitions.specs.declared.Shift.TheVariants.{Left};
+ghost use Rattle.definitions.specs.Hash.{places, shifted_by, rows, mix_step, mix, hash2, hash3, hash4};
 
 use definitions::{Mix, Shift};
 
@@ -35,7 +36,7 @@ fn shifted(r: Shift, z: u32) -> u32
 
 // The step of a row: the target stands first and its neighbour last, and the three are then turned by one place.
 #[tactic(auto, unfolding(definitions::specs::Hash::mix_step))]
-pub fn mix_step(r: Shift, m: Mix) -> Mix
+pub fn row_step(r: Shift, m: Mix) -> Mix
     requires { places r < 32 }
     ensures { result ≡ mix_step r m }
 {
@@ -47,12 +48,20 @@ pub fn mix_step(r: Shift, m: Mix) -> Mix
     }
 }
 
+// Step i of the nine.
+pub fn mix_step(i: usize, m: Mix) -> Mix
+    requires { i < 9 }
+    ensures { result ≡ mix_step (slice_index_or rows i (Left 0)) m }
+{
+    row_step(ROWS[i], m)
+}
+
 pub fn mix(m: Mix) -> Mix
     ensures { result ≡ mix m }
 {
     let mut n = m;
-    for r in ROWS {
-        n = mix_step(r, n);
+    for i in 0..9 {
+        n = mix_step(i, n);
     }
     n
 }

@@ -50,7 +50,7 @@ module _ (m : Map) (b : ℕ) where
 -- ---- a step
 
 -- one of another kind than 1 takes no bucket
-step_other : (m : Map) (p : Step) → (p.step ≡ 1 → ⊥) → true ≡ step_present m p
+pub step_other : (m : Map) (p : Step) → (p.step ≡ 1 → ⊥) → true ≡ step_present m p
 unfolding takes_present action_of
 step_other m p n = rw (ne_eqb p.step 1 n) (go (eqb p.step 2) (eqb p.step 3) (eqb p.step 4) (eqb p.step 5))
   where

@@ -19,7 +19,8 @@ use Rattle.laws.specs.Members.{mem-every, map-ext}
 use Rattle.laws.specs.Loadable.{rising-is, present-is}
 use Rattle.laws.specs.Forest.{kids_of, kids-bucket, kid-link, kid-falls, weight-device, weight-bucket}
 use Rattle.text.specs.Records.{no_bucket}
-use Rattle.members.specs.Weights.{bucket_written, written_of, written-device, written-bucket}
+use Rattle.members.specs.Levels.{looked_up, bucket-item}
+use Rattle.members.specs.Weights.{bucket_written, written_of, written-device, written-bucket, Weights}
 use Rattle.members.specs.Totals.{links_of, Totalled}
 
 -- what stands in the frames of the children of bucket b, added
@@ -133,3 +134,14 @@ module _ (m : Map) (r : rising m ≡ true) (p : present m ≡ true) (f : falling
   pub adds-summed : every (bucket_adds m) m.buckets ≡ summed m
   unfolding summed
   adds-summed = one_answer (every (bucket_adds m) m.buckets) (every (bucket_sums m) m.buckets) adds_then sums-then
+
+-- the test of the bucket at k is that of the two tables at its number
+pub sum-answers : (m : Map) → rising m ≡ true → (ws r : List ℕ) → Weights m ws → Sums m r → (k : ℕ) → k < length m.buckets → (get_or m.buckets k no_bucket).number ≤ 255
+    → eqb (looked_up ws (bucket_item (get_or m.buckets k no_bucket).number)) (get_or r (get_or m.buckets k no_bucket).number 0) ≡ bucket_adds m (get_or m.buckets k no_bucket)
+sum-answers m g ws r W S k l h =
+    let b = get_or m.buckets k no_bucket in
+    let z : bucket_number (bucket_item b.number) ≡ b.number = omega arith in
+    let w : looked_up ws (bucket_item b.number) ≡ b.weight
+    = W.weight (bucket_item b.number) (bucket-item b.number h) ∙ written-bucket m (bucket_item b.number) (omega arith) ∙ ap (bucket_written m) z
+    ∙ lookup-at (λ (x : Bucket). x.number) no_bucket (λ (x : Bucket). x.weight) m.buckets k (rising-is m g).buckets l in
+    ap (λ (n : ℕ). eqb n (get_or r b.number 0)) w ∙ ap (eqb b.weight) (S.added b.number (omega arith))

@@ -1,5 +1,5 @@
 // All groups that change: their moves, as an edit or a return tells them, and their new rows.
-ghost use Rattle.std.specs.Prelude.{◌≡◌, true, false, [], ℕ, ◌+◌, ◌*◌, ◌<◌, ◌≤◌, length, get_or, take, drop};
+ghost use Rattle.std.specs.Prelude.{◌≡◌, true, [], ℕ, ◌+◌, ◌*◌, ◌<◌, ◌≤◌, length, get_or, take, drop};
 ghost use Rattle.definitions.specs.Lists.{every, over};
 ghost use Rattle.definitions.specs.Map.{Map};
 ghost use Rattle.definitions.specs.Select.{entries_of};
@@ -89,7 +89,7 @@ pub fn apply<'a, 'b, 'c>(
     new: &'a Values,
     rule: Rule,
     task: Task,
-    changed: &'a [bool],
+    changed: &'a [u8],
     table: &'b mut [u16],
     space: &'c mut [u8],
 )
@@ -99,14 +99,14 @@ pub fn apply<'a, 'b, 'c>(
     requires table_value { take (task.groups * task.w) table.old ≡ rows_to (places_at plan.now old.now rule task.w) task.groups }
     requires groups_in_bounds { 23 * length (moves_by task.w (places_at plan.now old.now rule task.w) (places_at plan.now new.now rule task.w) task.groups)
         ≤ length space.old }
-    requires by_index { (g : ℕ) → g < task.groups → get_or changed.now g false ≡ false → moves_at plan.now old.now new.now rule task.w g ≡ [] }
+    requires by_index { (g : ℕ) → g < task.groups → get_or changed.now g 0 ≡ 0 → moves_at plan.now old.now new.now rule task.w g ≡ [] }
     ensures { (m m' : Map) → Between plan.now old.now new.now rule task.groups task.w m m'
         → (table.new ≡ over (table_of m') table.old)
         × (space.new ≡ over (moves_bytes (as_told task.mover (moves_of m m'))) space.old) }
 {
     let mut at = 0;
     for g in 0..task.groups {
-        if changed[g as usize] {
+        if changed[g as usize] != 0 {
             at = apply_group(plan, old, new, rule, task, g, table, space, at);
         }
     }

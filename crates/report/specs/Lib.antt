@@ -2,5 +2,6 @@
 pub mod Edits
 pub mod Says
 pub mod Kept
+pub mod Padded
 pub mod Reads
 pub mod Again

@@ -128,16 +128,24 @@ pub lengthens-none : Lengthens []
 unfolding bytes_of
 lengthens-none p space s = ap (λ (l : List ℕ). record { site = s.site; line = l; printed = s.printed }) (sym (append-nil s.line))
 
-lengthens-more : (b : ℕ) (bs : List ℕ) → (b ≡ 10 → ⊥) → Lengthens bs → Lengthens (b ∷ bs)
+-- one byte more behind them
+pub lengthens-more : (bs : List ℕ) (b : ℕ) → Lengthens bs → (b ≡ 10 → ⊥) → Lengthens (bs ++ (b ∷ []))
 unfolding bytes_of
-lengthens-more b bs n h p space s =
+lengthens-more bs b h n p space s =
+    bytes_cut p space s bs (b ∷ [])
+    ∙ rw (h p space s, byte-other p s.site (s.line ++ bs) b space n, append_assoc s.line bs (b ∷ []), append-nil s.printed) refl
+
+-- and one ahead of them
+lengthens-ahead : (b : ℕ) (bs : List ℕ) → (b ≡ 10 → ⊥) → Lengthens bs → Lengthens (b ∷ bs)
+unfolding bytes_of
+lengthens-ahead b bs n h p space s =
     rw (byte-other p s.site s.line b space n, h p space (behind s.printed (session s.site (s.line ++ (b ∷ [])))), append_assoc s.line (b ∷ []) bs, append-nil s.printed) refl
 
 -- the first n bytes, where none of them is the byte 10
 pub lengthens-front : (read : List ℕ) (n : ℕ) → ((k : ℕ) → k < n → get_or read k 0 ≡ 10 → ⊥) → Lengthens (take n read)
 lengthens-front read zero h = lengthens-none
 lengthens-front [] (suc n) h = lengthens-none
-lengthens-front (b ∷ bs) (suc n) h = lengthens-more b (take n bs) (h 0 (omega arith)) (lengthens-front bs n (λ k i. h (suc k) (omega (arith, i))))
+lengthens-front (b ∷ bs) (suc n) h = lengthens-ahead b (take n bs) (h 0 (omega arith)) (lengthens-front bs n (λ k i. h (suc k) (omega (arith, i))))
 
 -- ---- the bytes of one turn
 

@@ -7,21 +7,26 @@ use std::marker::Model;
 // How many bytes of a line are kept at most: one more than the longest line that does anything has, so that a longer one stays of no form.
 const KEPT: usize = 15;
 
-// A line under way, of which the first bytes are kept. No heap: they are the front of a fixed space.
-#[derive(Drop)]
+// A line under way, of which the first bytes are kept. No heap: they are the front of a fixed space, with zeros behind them.
+#[derive(Clone, Copy)]
 pub struct Line {
     space: [u8; KEPT],
     count: usize,
 }
 
 impl Model for Line {
-    ghost use Rattle.std.specs.Prelude.{List, ℕ, ◌≤◌, take};
+    ghost use Rattle.std.specs.Prelude.{List, ℕ, ◌++◌, ◌-◌, length, take, replicate};
+    ghost use Rattle.report.specs.Padded.{Padded, counted, padded};
 
     ghost Value = { List ℕ };
 
     ghost view = { λ l. take l.count l.space };
 
-    ghost invariant = { λ l. l.count ≤ 15 };
+    ghost invariant = { λ l. Padded l.count l.space };
+
+    ghost inverse = { λ xs. record { space = xs ++ replicate (15 - length xs) 0; count = length xs } };
+
+    ghost inverse_ok = { λ l p i. record { space = padded l.count l.space p i; count = counted l.count l.space p i } };
 }
 
 impl Line {
@@ -57,6 +62,7 @@ impl Line {
     pub fn clear(&mut self)
         ensures { self.new ≡ [] }
     {
+        self.space = [0; KEPT];
         self.count = 0;
     }
 }

@@ -1,8 +1,9 @@
 -- The rows and the moves of the groups below a number, and what a survey of the table finds. Assumes nothing.
 use Rattle.std.specs.Prelude.{◌≡◌, Bool, true, false, not, Option, None, Some, ℕ, zero, suc, ◌+◌, ◌*◌, ◌<◌, ◌≤◌, eqb, length, get_or, take, drop, set}
 use Rattle.std.proofs.Math.Path.{refl, subst}
+use mir.Val.{bool_byte}
 use Rattle.std.proofs.Common.{sym, ap, ap₂, ◌∙◌, add-one, eq-or-lt_of_le, mul-le-mul_right, mul-le-mul, zero-mul, eqb-true, length-append, take_at, drop_at, take-take, length-take-le, get_or-set_same, get_or-set_other}
-use Rattle.std.proofs.lemmas.Bool.{false≢true, not-false}
+use Rattle.std.proofs.lemmas.Bool.{false≢true}
 use mathlib.Core.List.Memᴰ
 use mathlib.Core.List.{List, [], ◌∷◌, ◌++◌, append-nil, append_assoc, Memᴰ}
 use Rattle.std.proofs.Math.Logic.{⊎_elim}
@@ -103,7 +104,7 @@ module _ (w : ℕ) (f f' : ℕ → List Place) where
   pub record Found (groups : ℕ) (table : List ℕ) (s : Findings) : Type 0 where
     pub rows : take (groups * w) table ≡ rows_to f groups
     pub moves : s.moves ≡ length (moves_by w f f' groups)
-    pub changed : (g : ℕ) → g < groups → get_or s.changed g false ≡ false → row_moves_to g (f g) (f' g) w ≡ []
+    pub changed : (g : ℕ) → g < groups → get_or s.changed g 0 ≡ 0 → row_moves_to g (f g) (f' g) w ≡ []
 
   -- what a survey of the table finds: 19, "Table what fill gives?", and then that
   abbrev pub Surveyed : ℕ → List ℕ → Option Findings → Type 0
@@ -111,14 +112,14 @@ module _ (w : ℕ) (f f' : ℕ → List Place) where
   Surveyed groups table (Some s) = Found groups table s
 
   -- what is known where the groups below g were looked at
-  pub record Sofar (g : ℕ) (table : List ℕ) (moves : ℕ) (changed : List Bool) : Type 0 where
+  pub record Sofar (g : ℕ) (table : List ℕ) (moves : ℕ) (changed : List ℕ) : Type 0 where
     pub rows : take (g * w) table ≡ rows_to f g
     pub counted : moves ≡ length (moves_by w f f' g)
     pub few : moves ≤ g * 32
-    pub marks : (k : ℕ) → k < g → get_or changed k false ≡ false → row_moves_to k (f k) (f' k) w ≡ []
+    pub marks : (k : ℕ) → k < g → get_or changed k 0 ≡ 0 → row_moves_to k (f k) (f' k) w ≡ []
     pub long : length changed ≡ 65536
 
-  pub sofar-none : (table : List ℕ) (changed : List Bool) → length changed ≡ 65536 → Sofar 0 table 0 changed
+  pub sofar-none : (table changed : List ℕ) → length changed ≡ 65536 → Sofar 0 table 0 changed
   unfolding moves_by
   sofar-none table changed l = record { rows = rows_none w f table; counted = refl; few = omega arith; marks = λ k h e. absurd (omega arith); long = l }
 
@@ -126,13 +127,13 @@ module _ (w : ℕ) (f f' : ℕ → List Place) where
   none-length [] e = refl
   none-length (m ∷ ms) e = absurd (omega (arith, e))
 
-  module _ (g groups : ℕ) (table : List ℕ) (changed : List Bool) (moves : ℕ) (s : Sofar g table moves changed) (h : g < groups) (room : groups * w ≤ length table)
+  module _ (g groups : ℕ) (table changed : List ℕ) (moves : ℕ) (s : Sofar g table moves changed) (h : g < groups) (room : groups * w ≤ length table)
       (j : ℕ) (one : j ≡ w) where
     abbrev row : List ℕ
     row = take j (drop (g * w) table)
 
     -- one group more
-    pub sofar-more : (k : ℕ) (b : Bool) → g < 65536 → Looked (f g) (f' g) w g row (Some k) → b ≡ not (eqb k 0)
+    pub sofar-more : (k b : ℕ) → g < 65536 → Looked (f g) (f' g) w g row (Some k) → b ≡ bool_byte (not (eqb k 0))
         → Sofar (g + 1) table (moves + k) (set changed g b)
     unfolding moves_by
     sofar-more k b l told e =
@@ -140,21 +141,25 @@ module _ (w : ℕ) (f f' : ℕ → List Place) where
           rows = rows_more w f g table s.rows j one told.0;
           counted = rw (add-one, s.counted, told.1) (sym (length-append (moves_by w f f' g) (row_moves_to g (f g) (f' g) w)));
           few = omega (arith, s.few, told.2);
-          marks = λ i l z. ⊎_elim (λ (q : i ≡ g). last i q z) (λ (q : i < g). s.marks i q (sym (get_or-set_other changed g i b false (λ t. omega arith)) ∙ z)) (eq-or-lt_of_le (omega arith));
+          marks = λ i l z. ⊎_elim (λ (q : i ≡ g). last i q z) (λ (q : i < g). s.marks i q (sym (get_or-set_other changed g i b 0 (λ t. omega arith)) ∙ z)) (eq-or-lt_of_le (omega arith));
           long = length-set changed g b ∙ s.long;
         }
       where
-        last : (i : ℕ) → i ≡ g → get_or (set changed g b) i false ≡ false → row_moves_to i (f i) (f' i) w ≡ []
+        unmarked : (t : Bool) → eqb k 0 ≡ t → b ≡ bool_byte (not t) → b ≡ 0 → k ≡ 0
+        unmarked true q p z = eqb-true k 0 q
+        unmarked false q p z = absurd (omega (arith, p, z))
+
+        last : (i : ℕ) → i ≡ g → get_or (set changed g b) i 0 ≡ 0 → row_moves_to i (f i) (f' i) w ≡ []
         last i q z =
-            let y : b ≡ false = sym (get_or-set_same changed g b false (omega (arith, s.long))) ∙ ap (λ (x : ℕ). get_or (set changed g b) x false) (sym q) ∙ z in
-            rw q (none-length (row_moves_to g (f g) (f' g) w) (sym told.1 ∙ eqb-true k 0 (not-false (eqb k 0) (sym e ∙ y))))
+            let y : b ≡ 0 = sym (get_or-set_same changed g b 0 (omega (arith, s.long))) ∙ ap (λ (x : ℕ). get_or (set changed g b) x 0) (sym q) ∙ z in
+            rw q (none-length (row_moves_to g (f g) (f' g) w) (sym told.1 ∙ unmarked (eqb k 0) refl e y))
 
     -- a row that is not what fill gives
     pub surveyed-stale : Looked (f g) (f' g) w g row None → Surveyed groups table None
     surveyed-stale told = rows-differ w f g table s.rows j one groups h room told.1 told.0
 
   -- every row is what fill gives
-  pub surveyed-all : (g groups : ℕ) (table : List ℕ) (changed : List Bool) (moves : ℕ) → g ≡ groups → Sofar g table moves changed
+  pub surveyed-all : (g groups : ℕ) (table changed : List ℕ) (moves : ℕ) → g ≡ groups → Sofar g table moves changed
       → Surveyed groups table (Some (record { moves = moves; changed = changed }))
   surveyed-all g groups table changed moves e s =
       record {

@@ -9,11 +9,11 @@ use crate::looks;
 use crate::looks::Reach;
 use hierarchy::{Plan, Rule, Values};
 
-// How many places move, and which groups those are of.
+// How many places move, and 1 for each group of which some do.
 #[derive(Clone, Copy)]
 pub struct Findings {
     pub moves: u32,
-    pub changed: [bool; 65536],
+    pub changed: [u8; 65536],
 }
 
 // Looks at every group below groups, w places wide each, and writes nothing. Places move within the reach alone. None: the table is not what
@@ -38,13 +38,13 @@ pub fn survey_within<'a, 'b>(
     ensures answers { (m m' : Map) → Between plan.now old.now new.now rule groups w m m'
         → Answers m m' table.now result }
 {
-    let mut changed = [false; 65536];
+    let mut changed = [0; 65536];
     let mut moves = 0;
     for g in 0..groups {
         let here = looks::reach_at(reach, moves, g);
         let a = g as usize * w;
         let k = looks::look(plan, old, new, rule, g, w, &table[a..a + w], here)?;
-        changed[g as usize] = k != 0;
+        changed[g as usize] = u8::from(k != 0);
         moves += k;
     }
     Some(Findings { moves, changed })

@@ -47,8 +47,8 @@ fn total<'a>(devices: &'a [u32], loads: &'a [u32], items: &'a [u32]) -> u32
     ensures { result ≡ sum (map (item_in devices.now loads.now) items.now) }
 {
     let mut n: u32 = 0;
-    for i in items {
-        n += weight_of(devices, loads, *i);
+    for i in 0..items.len() {
+        n += weight_of(devices, loads, items[i]);
     }
     n
 }

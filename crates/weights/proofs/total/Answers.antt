@@ -8,16 +8,16 @@ pub overflow_add-n : goal.overflow_add-n
 overflow_add-n c =
     let a = c.args in
     let l = c.loop-i in
-    omega (arith, sum-next (item_in a.devices.now a.loads.now) a.items.now l.i-index l.n _ l.invariant c.weight_of-n.result c.loop-i-test.true c.weight_of-n.ensures, c.requires.bound)
+    omega (arith, sum-next (item_in a.devices.now a.loads.now) a.items.now l.i l.n _ l.invariant c.weight_of-n.result c.loop-i-test.true c.weight_of-n.ensures, c.requires.bound)
 
 pub loop-i-preserved : goal.loop-i-preserved
 loop-i-preserved c =
     let a = c.args in
     let l = c.loop-i in
-    sum-next (item_in a.devices.now a.loads.now) a.items.now l.i-index l.n _ l.invariant c.weight_of-n.result c.loop-i-test.true c.weight_of-n.ensures
+    sum-next (item_in a.devices.now a.loads.now) a.items.now l.i l.n _ l.invariant c.weight_of-n.result c.loop-i-test.true c.weight_of-n.ensures
 
 pub returns : goal.returns
 returns c =
     let a = c.args in
     let l = c.loop-i in
-    sum-end (item_in a.devices.now a.loads.now) a.items.now l.i-index l.n _ l.invariant (omega arith)
+    sum-end (item_in a.devices.now a.loads.now) a.items.now l.i l.n _ l.invariant (omega arith)

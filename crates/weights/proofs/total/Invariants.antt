@@ -8,4 +8,4 @@ use Rattle.weights.proofs.total.Given as goal
 
 abbrev pub invariant-loop-i : goal.invariant-loop-i
 invariant-loop-i l =
-    l.n + sum (map (item_in l.devices l.loads) (drop l.i-index l.items)) ≡ sum (map (item_in l.devices l.loads) l.items)
+    l.n + sum (map (item_in l.devices l.loads) (drop l.i l.items)) ≡ sum (map (item_in l.devices l.loads) l.items)

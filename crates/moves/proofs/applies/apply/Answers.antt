@@ -3,7 +3,7 @@ use Rattle.std.proofs.Common.{arith}
 use Rattle.survey.specs.Places.{places_at}
 use Rattle.moves.specs.Applied.{length-row, applied-none, old_row, moves-room, applied-more, applied-still, applied-maps}
 use Rattle.moves.proofs.applies.apply.Goals as goal
-use Rattle.moves.proofs.applies.apply.Goals.{then-changed-g, else-changed-g}
+use Rattle.moves.proofs.applies.apply.Goals.{then-changed-g-ne0, else-changed-g-ne0}
 
 pub loop-g-init : goal.loop-g-init
 loop-g-init c = applied-none _ _ _ _ _ _
@@ -32,11 +32,11 @@ loop-g-preserved c =
     let news = places_at a.plan.now a.new.now a.rule a.task.w in
     let wide = length-row a.plan.now a.old.now a.rule a.task.w c.requires.long.0 in
     let wide' = length-row a.plan.now a.new.now a.rule a.task.w c.requires.long.1 in
-    elim c.if-changed-g.branch [
-      | then-changed-g m ↦ rw (m.table-is, m.space-is, m.at-is)
+    elim c.if-changed-g-ne0.branch [
+      | then-changed-g-ne0 m ↦ rw (m.table-is, m.space-is, m.at-is)
           (applied-more a.task.mover a.task.w olds news l.g a.task.groups a.table.now l.table a.space.now l.space l.at l.invariant c.loop-g-test.true wide wide' m.apply_group-at.ensures.rewritten m.apply_group-at.ensures.written)
-      | else-changed-g m ↦ rw (m.table-is, m.space-is, m.at-is)
-          (applied-still a.task.mover a.task.w olds news l.g a.task.groups a.table.now l.table a.space.now l.space l.at l.invariant c.loop-g-test.true wide wide' c.requires.table_value c.requires.groups_bound.2 (c.requires.by_index l.g c.loop-g-test.true m.if-changed-g.false))
+      | else-changed-g-ne0 m ↦ rw (m.table-is, m.space-is, m.at-is)
+          (applied-still a.task.mover a.task.w olds news l.g a.task.groups a.table.now l.table a.space.now l.space l.at l.invariant c.loop-g-test.true wide wide' c.requires.table_value c.requires.groups_bound.2 (c.requires.by_index l.g c.loop-g-test.true m.if-changed-g-ne0.false))
     ]
 
 pub returns : goal.returns

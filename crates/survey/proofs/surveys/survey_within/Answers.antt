@@ -1,6 +1,6 @@
 -- `survey::surveys::survey_within` meets its contract. The invariant: what is known where the groups below g were looked at. Assumes nothing.
 use Rattle.std.specs.Prelude.{◌<◌, None, Some}
-use Rattle.std.proofs.Common.{refl, arith, rules}
+use Rattle.std.proofs.Common.{arith, rules}
 use native.Mathlib.Nat.{add-sub_cancel_left}
 use Rattle.survey.specs.Places.{places_at}
 use Rattle.survey.specs.Between.{answers}
@@ -27,7 +27,7 @@ loop-g-preserved c =
     let l = c.loop-g in
     let h : l.g < 65536 = omega arith in
     sofar-more a.w olds news l.g a.groups a.table.now l.changed l.moves l.invariant c.loop-g-test.true
-    c.requires.groups_bound.1 _ (add-sub_cancel_left _ _) c.in_ok-k.k _ h c.in_ok-k.ensures refl
+    c.requires.groups_bound.1 _ (add-sub_cancel_left _ _) c.in_ok-k.k _ h c.in_ok-k.ensures c.from.ensures
 
 pub returns : goal.returns
 returns c =
