@@ -7,7 +7,8 @@ use std::marker::Model;
 // How many bytes of a line are kept at most: one more than the longest line that does anything has, so that a longer one stays of no form.
 const KEPT: usize = 15;
 
-// A line under way, of which the first bytes are kept. No heap: they are the front of a fixed space, with zeros behind them.
+// A line under way, of which the first bytes are kept. No heap: they are the front of a fixed space, with zeros behind them, so that the bytes alone
+// tell the space, as a copy needs it.
 #[derive(Clone, Copy)]
 pub struct Line {
     space: [u8; KEPT],
